@@ -1,0 +1,3 @@
+// The decimal digits of a number.
+mod digits;
+pub use digits::Digits;

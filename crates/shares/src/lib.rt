@@ -1,0 +1,7 @@
+// Shares: what can be lent, how a share is cut in two, and how shares come together again.
+mod joins;
+mod printed;
+mod share;
+pub use joins::join_all;
+pub use printed::Printed;
+pub use share::Share;
