@@ -1,0 +1,4 @@
+pub mod Tree
+pub mod Cells
+pub mod Canonical
+pub mod Block
