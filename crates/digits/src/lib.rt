@@ -1,3 +1,4 @@
 // The decimal digits of a number.
 mod digits;
+
 pub use digits::Digits;

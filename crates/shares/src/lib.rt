@@ -2,6 +2,7 @@
 mod joins;
 mod printed;
 mod share;
+
 pub use joins::join_all;
 pub use printed::Printed;
 pub use share::Share;

@@ -23,12 +23,12 @@ by-digits {a} {b} hi lo = sym (div-add-mod' a 2) ∙ ap₂ (λ x y. x * 2 + y) h
 and-or : (a b c : ℕ) → bitAnd (bitOr a b) c ≡ bitOr (bitAnd a c) (bitAnd b c)
 and-or =
     bin-ind (λ (n : ℕ). (b c : ℕ) → bitAnd (bitOr n b) c ≡ bitOr (bitAnd n c) (bitAnd b c)) (λ b c. refl)
-      (λ n ih b c. by-digits
-        (and-shr (bitOr n b) c 1 ∙ ap (λ (x : ℕ). bitAnd x (c / 2)) (or-shr n b 1) ∙ ih (b / 2) (c / 2)
-          ∙ sym (or-shr (bitAnd n c) (bitAnd b c) 1 ∙ ap₂ bitOr (and-shr n c 1) (and-shr b c 1)))
-        (and-mod (bitOr n b) c 1 ∙ ap (λ (x : ℕ). bitAnd x (c % 2)) (or-mod n b 1)
-          ∙ digit-distr (n % 2) (b % 2) (c % 2) (mod-lt n (omega arith)) (mod-lt b (omega arith)) (mod-lt c (omega arith))
-          ∙ sym (or-mod (bitAnd n c) (bitAnd b c) 1 ∙ ap₂ bitOr (and-mod n c 1) (and-mod b c 1))))
+    (λ n ih b c. by-digits
+    (and-shr (bitOr n b) c 1 ∙ ap (λ (x : ℕ). bitAnd x (c / 2)) (or-shr n b 1) ∙ ih (b / 2) (c / 2)
+    ∙ sym (or-shr (bitAnd n c) (bitAnd b c) 1 ∙ ap₂ bitOr (and-shr n c 1) (and-shr b c 1)))
+    (and-mod (bitOr n b) c 1 ∙ ap (λ (x : ℕ). bitAnd x (c % 2)) (or-mod n b 1)
+    ∙ digit-distr (n % 2) (b % 2) (c % 2) (mod-lt n (omega arith)) (mod-lt b (omega arith)) (mod-lt c (omega arith))
+    ∙ sym (or-mod (bitAnd n c) (bitAnd b c) 1 ∙ ap₂ bitOr (and-mod n c 1) (and-mod b c 1))))
 
 -- a union is apart from c exactly when both parts are
 pub apart-parts : (a b c : ℕ) → bitAnd a b ≡ 0 → bitAnd (a + b) c ≡ 0 → (bitAnd a c ≡ 0) × (bitAnd b c ≡ 0)

@@ -93,6 +93,7 @@ kept-full size cells b e = go (cases-eq size 1)
   where
     leaf-is : kept-cells (level size) (tree-of (level size) cells) ≡ kept-cells (level size) (leaf true)
     leaf-is = ap (kept-cells (level size)) (tree-all size cells b e)
+
     go : (size ≡ 1) ⊎ (size ≡ 1 → ⊥) → cond (eqb size 1) None (Some (2 ^ (size / 2) - 1)) ≡ kept-cells (level size) (tree-of (level size) cells)
     go (inl p) = cond-true (eqb size 1) None (Some (2 ^ (size / 2) - 1)) (eq-eqb size 1 p) ∙ sym (leaf-is ∙ ap (λ s. kept-cells (level s) (leaf true)) p)
     go (inr n) =
@@ -128,11 +129,11 @@ module _ (size cells : ℕ) (m : Mixed size cells) where
       let H = halving size (m .block .sized) several in
       let fits : cells < 2 ^ span (level size) = subst (λ s. cells < 2 ^ s) (m .block .sized) (m .block .fits) in
       let e : tree-of (level size) cells ≡ fold low-tree high-tree =
-          ap (λ k. tree-of k cells) (H .level-is)
-          ∙ sym (ap₂ (λ k w. fold (tree-of k (cells % 2 ^ w)) (tree-of k (cells / 2 ^ w))) (H .half-level) (H .half-is)) in
+      ap (λ k. tree-of k cells) (H .level-is)
+      ∙ sym (ap₂ (λ k w. fold (tree-of k (cells % 2 ^ w)) (tree-of k (cells / 2 ^ w))) (H .half-level) (H .half-is)) in
       let back : (t : Tree) → tree-of (level size) cells ≡ t → cells ≡ cells-of (level size) t = λ t q. sym (cells-tree (level size) cells fits) ∙ ap (cells-of (level size)) q in
       e ∙ fold-node low-tree high-tree
-        (λ q. m .not-all (back (leaf true) (e ∙ q) ∙ ap (λ s. 2 ^ s - 1) (sym (m .block .sized)))) (λ q. m .some (back (leaf false) (e ∙ q)))
+      (λ q. m .not-all (back (leaf true) (e ∙ q) ∙ ap (λ s. 2 ^ s - 1) (sym (m .block .sized)))) (λ q. m .some (back (leaf false) (e ∙ q)))
 
   pub text-pair : text-of size cells ≡ 40 ∷ (text-of (size / 2) (cells % 2 ^ (size / 2)) ++ (text-of (size / 2) (cells / 2 ^ (size / 2)) ++ (41 ∷ [])))
   unfolding text-of
@@ -163,7 +164,7 @@ module _ (size cells : ℕ) (m : Mixed size cells) where
       let high = kept-is k high-tree y q in
       let lt : (t : Tree) (a : ℕ) → a ≡ cells-of k (kept t) → a < 2 ^ (size / 2) = λ t a e. subst (λ w. w < 2 ^ (size / 2)) (sym e) (subst (λ s. cells-of k (kept t) < 2 ^ s) (sym sized) (cells-lt k (kept t))) in
       let fit : (y * 2 ^ (size / 2)) % 2 ^ 64 ≡ y * 2 ^ (size / 2) =
-          shl-exact (size / 2) (size / 2) 64 (lt high-tree y (high .1)) (omega (arith, two-halves size (m .block .sized) several, size-range size (m .block .sized))) in
+      shl-exact (size / 2) (size / 2) 64 (lt high-tree y (high .1)) (omega (arith, two-halves size (m .block .sized) several, size-range size (m .block .sized))) in
       ap (λ w. Some (bitOr x w)) fit
       ∙ ap Some (or-shifted-r y (size / 2) x (lt low-tree x (low .1)))
       ∙ ap (λ s. Some (y * 2 ^ s + x)) sized

@@ -102,9 +102,10 @@ half-tree a n x y c h p e =
 
 halved : (a k l : Trees) → halves a ≡ Some (k, l) → (tree k ≡ kept (tree a)) × (tree l ≡ lent (tree a))
 halved a k l e =
-    let c = halves-is a k l e in
-    ( half-tree a (k .cells) ● ○ (λ x. x, tt, tt) (omega arith) (c .no-cell) (c .kept-is),
-      half-tree a (l .cells) ○ ● (λ x. x, tt, tt) (omega arith) (c .no-cell) (c .lent-is) )
+    let c = halves-is a k l e in (
+      half-tree a (k .cells) ● ○ (λ x. x, tt, tt) (omega arith) (c .no-cell) (c .kept-is),
+      half-tree a (l .cells) ○ ● (λ x. x, tt, tt) (omega arith) (c .no-cell) (c .lent-is),
+    )
 
 refused-only : (a : Trees) → halves a ≡ None → (tree a ≡ ○) ⊎ (has-filled-cell 6 (tree a) ≡ true)
 refused-only a e = ⊎-elim (λ z. inl (ap (tree-of 6) z ∙ tree-empty 6)) inr (cut-refused (a .cells) (halves-refused a e))
@@ -120,9 +121,10 @@ canonical-trees = record {
   exact = λ a b e. same-trees a b (tree-exact 6 (a .cells) (b .cells) (a .fits) (b .fits) e);
   joins = λ a b. (
     (λ c. sym (overlap-tree a b) ∙ ap (tree-of 6) (union-is a b (c .0) (c .1) .0) ∙ tree-empty 6),
-    (λ e. (sum a b (apart a b e), joined a b (apart a b e))));
+    (λ e. (sum a b (apart a b e), joined a b (apart a b e))),
+  );
   joined = λ a b c e. let u = union-is a b c e in
-    ap (tree-of 6) (u .1 ∙ sym (or-disjoint (a .cells) (b .cells) (u .0))) ∙ tree-or 6 (a .cells) (b .cells) (a .fits) (b .fits);
+      ap (tree-of 6) (u .1 ∙ sym (or-disjoint (a .cells) (b .cells) (u .0))) ∙ tree-or 6 (a .cells) (b .cells) (a .fits) (b .fits);
   halved = halved;
   refused = λ a. (refused-only a, refused-then a);
 }
@@ -132,6 +134,7 @@ short a = text-short 6 (a .cells)
 
 -- equal texts, equal trees, equal shares
 pub tells : (a b : Trees) → (text (tree a) ≡ text (tree b)) ↔ (a ≡ b)
-tells a b =
-    ( (λ e. same-trees a b (tree-exact 6 (a .cells) (b .cells) (a .fits) (b .fits) (text-exact (tree a) (tree b) [] [] (ap (λ x. x ++ []) e) .0))),
-      (λ e. ap (λ s. text (tree s)) e) )
+tells a b = (
+  (λ e. same-trees a b (tree-exact 6 (a .cells) (b .cells) (a .fits) (b .fits) (text-exact (tree a) (tree b) [] [] (ap (λ x. x ++ []) e) .0))),
+  (λ e. ap (λ s. text (tree s)) e),
+)

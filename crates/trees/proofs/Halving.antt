@@ -57,7 +57,7 @@ half-some s f zero (node l r) p q = q
 half-some s f (suc h) (node l r) p q =
     let b = or-parts (has-filled-cell h l) (has-filled-cell h r) p in
     digits-some (cells-of h r) (cells-of h l) (cells-of h (_⋈_ r s)) (cells-of h (_⋈_ l s)) (2 ^ span h) (pow-pos (span h))
-      (half-some s f h r (b .1)) (half-some s f h l (b .0)) q
+    (half-some s f h r (b .1)) (half-some s f h l (b .0)) q
 
 span-pos : (h : ℕ) → 1 ≤ span h
 span-pos zero = omega arith

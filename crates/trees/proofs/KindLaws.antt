@@ -96,8 +96,10 @@ associates a b c = go (cases-eq (bitAnd (a .cells) (b .cells)) 0) (cases-eq (bit
   where
     swap : (x y : Trees) → bitAnd (x .cells) (y .cells) ≡ 0 → bitAnd (y .cells) (x .cells) ≡ 0
     swap x y e = and-comm (y .cells) (x .cells) ∙ e
+
     neither : ((bitAnd (a .cells) (b .cells) ≡ 0) → (bitAnd (a .cells) (c .cells) ≡ 0) → (bitAnd (b .cells) (c .cells) ≡ 0) → ⊥) → then (union a b) (λ ab. union ab c) ≡ then (union b c) (λ bc. union bc a)
     neither n = lower-none a b c n ∙ sym (lower-none b c a (λ p q r. n (swap b a q) (swap c a r) p))
+
     go : (bitAnd (a .cells) (b .cells) ≡ 0) ⊎ (bitAnd (a .cells) (b .cells) ≡ 0 → ⊥) → (bitAnd (a .cells) (c .cells) ≡ 0) ⊎ (bitAnd (a .cells) (c .cells) ≡ 0 → ⊥) → (bitAnd (b .cells) (c .cells) ≡ 0) ⊎ (bitAnd (b .cells) (c .cells) ≡ 0 → ⊥)
         → then (union a b) (λ ab. union ab c) ≡ then (union b c) (λ bc. union bc a)
     go (inl p) (inl q) (inl r) =
@@ -171,9 +173,10 @@ both p = (of-cells (p .0), of-cells (p .1))
 
 parts-fit : (n : ℕ) (p : ℕ × ℕ) → cut n ≡ Some p → (of-cells (p .0) .cells ≡ p .0) × (of-cells (p .1) .cells ≡ p .1)
 parts-fit n p e =
-    let c = cut-is n (p .0) (p .1) e in
-    ( mod-eq-of-lt (subst (λ x. x < 2 ^ 64) (sym (c .kept-is)) (cells-lt 6 (kept (tree-of 6 n)))),
-      mod-eq-of-lt (subst (λ x. x < 2 ^ 64) (sym (c .lent-is)) (cells-lt 6 (lent (tree-of 6 n)))) )
+    let c = cut-is n (p .0) (p .1) e in (
+      mod-eq-of-lt (subst (λ x. x < 2 ^ 64) (sym (c .kept-is)) (cells-lt 6 (kept (tree-of 6 n)))),
+      mod-eq-of-lt (subst (λ x. x < 2 ^ 64) (sym (c .lent-is)) (cells-lt 6 (lent (tree-of 6 n)))),
+    )
 
 pub halves-is : (a k l : Trees) → halves a ≡ Some (k, l) → Cut (a .cells) (k .cells) (l .cells)
 halves-is a k l = go (cut (a .cells)) refl
@@ -184,7 +187,7 @@ halves-is a k l = go (cut (a .cells)) refl
         let q : _≡_ {A = Trees × Trees} (both p) (k, l) = cc in
         let fit = parts-fit (a .cells) p f in
         subst (λ x. Cut (a .cells) x (l .cells)) (sym (fit .0) ∙ ap (λ x. x .0 .cells) q)
-          (subst (λ x. Cut (a .cells) (p .0) x) (sym (fit .1) ∙ ap (λ x. x .1 .cells) q) (cut-is (a .cells) (p .0) (p .1) f))
+        (subst (λ x. Cut (a .cells) (p .0) x) (sym (fit .1) ∙ ap (λ x. x .1 .cells) q) (cut-is (a .cells) (p .0) (p .1) f))
 
 pub halves-refused : (a : Trees) → halves a ≡ None → cut (a .cells) ≡ None
 halves-refused a = go (cut (a .cells)) refl
@@ -201,8 +204,8 @@ rejoins : (a k l : Trees) → halves a ≡ Some (k, l) → union k l ≡ Some a
 rejoins a k l e =
     let c = halves-is a k l e in
     union-some k l a
-      (ap (λ x. bitAnd x (l .cells)) (c .kept-is) ∙ ap (bitAnd (cells-of 6 (kept (tree a)))) (c .lent-is) ∙ halves-apart 6 (tree a))
-      (omega (arith, c .kept-is, c .lent-is, halves-add 6 (tree a) (c .no-cell), cells-back a))
+    (ap (λ x. bitAnd x (l .cells)) (c .kept-is) ∙ ap (bitAnd (cells-of 6 (kept (tree a)))) (c .lent-is) ∙ halves-apart 6 (tree a))
+    (omega (arith, c .kept-is, c .lent-is, halves-add 6 (tree a) (c .no-cell), cells-back a))
 
 halves-some : (a k l : Trees) → halves a ≡ Some (k, l) → (k ≡ none → ⊥) × (l ≡ none → ⊥)
 halves-some a k l e =

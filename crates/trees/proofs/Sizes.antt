@@ -66,6 +66,7 @@ halving size e n = go (level size) refl (level-le size)
       small = omega arith;
       half-small = omega (arith, ap (λ x. x / 2) s);
     }
+
     go : (k : ℕ) → level size ≡ k → k ≤ 6 → Halving size
     go zero a l = absurd (n (e ∙ ap span a))
     go (suc zero) a l = make 0 a (e ∙ ap span a) refl refl (omega arith) (omega arith)

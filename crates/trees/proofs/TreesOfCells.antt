@@ -129,6 +129,6 @@ pub tree-full : (h : ℕ) → tree-of h (2 ^ span h - 1) ≡ leaf true
 tree-full zero = refl
 tree-full (suc h) =
     ap₂ (λ x y. fold (tree-of h x) (tree-of h y))
-      (ap (λ x. x % 2 ^ span h) (ones-split h) ∙ digits-mod (2 ^ span h - 1) (ones-lt (span h)))
-      (ap (λ x. x / 2 ^ span h) (ones-split h) ∙ digits-div (2 ^ span h - 1) (ones-lt (span h)))
+    (ap (λ x. x % 2 ^ span h) (ones-split h) ∙ digits-mod (2 ^ span h - 1) (ones-lt (span h)))
+    (ap (λ x. x / 2 ^ span h) (ones-split h) ∙ digits-div (2 ^ span h - 1) (ones-lt (span h)))
     ∙ ap₂ fold (tree-full h) (tree-full h)

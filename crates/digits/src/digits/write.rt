@@ -17,7 +17,8 @@ impl Digits {
 
     // The bytes of the digits.
     pub fn as_slice(&self) -> &[u8]
-        ensures { λ r. ⌜ now r ≡ shown (now (self .entry)) ⌝ }
+        ensures is { λ r. ⌜ now r ≡ shown (now (self .entry)) ⌝ }
+        ensures most { λ r. ⌜ length (now r) ≤ 10 ⌝ }
     {
         &self.bytes[0..self.count]
     }

@@ -78,5 +78,9 @@ fn lower_leaf(size: u32) -> Option<u64>
     requires { ⌜ 1 ≤ size ⌝ ∗ ⌜ size ≤ 64 ⌝ }
     ensures { λ r. ⌜ r ≡ cond (eqb size 1) None (Some (2 ^ (size / 2) - 1)) ⌝ }
 {
-    if size == 1 { None } else { Some(full(size / 2)) }
+    if size == 1 {
+        None
+    } else {
+        Some(full(size / 2))
+    }
 }

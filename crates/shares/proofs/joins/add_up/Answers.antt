@@ -32,8 +32,8 @@ returns-in-Break-sum g c =
     let undefined : K .join (c .loop-s .sum) (c .s-item .result) ≡ None = sym (c .join .ensures) ∙ c .in-Break-sum .was tt in
     let rest = together K (drop (c .loop-s .s-index + 1) xs) in
     let is : c .from-residual .result ≡ together K xs =
-        c .from-residual .ensures ∙ sym (plus-none K rest) ∙ sym (ap (λ o. plus? K o rest) undefined)
-        ∙ sym (step K L xs (c .loop-s .s-index) (c .s-item .result) (c .loop-s .sum) (c .loop-s-test .taken) (c .s-item .is)) ∙ c .loop-s .inv in
+    c .from-residual .ensures ∙ sym (plus-none K rest) ∙ sym (ap (λ o. plus? K o rest) undefined)
+    ∙ sym (step K L xs (c .loop-s .s-index) (c .s-item .result) (c .loop-s .sum) (c .loop-s-test .taken) (c .s-item .is)) ∙ c .loop-s .inv in
     record { is = is; any-way = λ h p. any-way K L xs h p ∙ sym is; every-way = every-way K L }
 
 pub loop-s-again : need.loop-s-again
@@ -51,5 +51,5 @@ returns g c =
     let L = g .S·Share·met .laws in
     let xs = c .args .shares .now in
     let is : Some (c .loop-s .sum) ≡ together K xs =
-        sym (plus-nothing K L (Some (c .loop-s .sum))) ∙ sym (ap (plus? K (Some (c .loop-s .sum))) (at-drop-all (together K) xs (c .loop-s .s-index) (c .loop-s-test .left))) ∙ c .loop-s .inv in
+    sym (plus-nothing K L (Some (c .loop-s .sum))) ∙ sym (ap (plus? K (Some (c .loop-s .sum))) (at-drop-all (together K) xs (c .loop-s .s-index) (c .loop-s-test .left))) ∙ c .loop-s .inv in
     record { is = is; any-way = λ h p. any-way K L xs h p ∙ sym is; every-way = every-way K L }

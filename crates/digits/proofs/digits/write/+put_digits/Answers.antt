@@ -37,5 +37,5 @@ returns t c =
       count = omega (arith, ap length step, length-append (decimal (c .args .n / 10)) (digit ∷ []));
       most = omega (arith, few (c .args .n) (omega arith));
       front = take-more-set (c .put-digits-last .last .bytes) (c .put-digits-last .result) digit (omega (arith, few (c .args .n) (omega arith)))
-        ∙ ap (λ ds. ds ++ (digit ∷ [])) front ∙ sym step;
+          ∙ ap (λ ds. ds ++ (digit ∷ [])) front ∙ sym step;
     }

@@ -61,4 +61,4 @@ returns t c =
     let m = mixed (c .args .size) (c .args .cells) (c .full .result) (c .pre) (c .if-cells-eq0 .left) (c .if-cells-full .left) (c .full .ensures) in
     let low = low-is (c .args .cells) (c .args .size / 2) (c .full-2 .result) (c .full-2 .ensures) in
     kept-both (c .args .size) (c .args .cells) m (c .in-Continue-low .low) (c .in-Continue-high .high)
-      (sym (c .in-Continue-low .ensures tt ∙ ap (kept-of (c .args .size / 2)) low)) (sym (c .in-Continue-high .ensures tt))
+    (sym (c .in-Continue-low .ensures tt ∙ ap (kept-of (c .args .size / 2)) low)) (sym (c .in-Continue-high .ensures tt))

@@ -52,10 +52,13 @@ module _ (size cells ones : ℕ) (m : Mixed size cells) (e : ones ≡ 2 ^ (size 
   mixed-length = ap length mixed-text ∙ omega (arith, length-append low-text (high-text ++ (41 ∷ [])), length-append high-text (41 ∷ []))
 
 pub write-block-write-pair-requires : need.write-block-write-pair-requires
-write-block-write-pair-requires t c κs =
-    ( omega arith,
-      ( mixed (c .args .size) (c .args .cells) (c .full .result) (c .pre .block) (c .if-cells-eq0 .left) (c .if-cells-full .left) (c .full .ensures),
-        c .pre .room ) )
+write-block-write-pair-requires t c κs = (
+  omega arith,
+  (
+    mixed (c .args .size) (c .args .cells) (c .full .result) (c .pre .block) (c .if-cells-eq0 .left) (c .if-cells-full .left) (c .full .ensures),
+    c .pre .room,
+  ),
+)
 
 pub write-pair-index-space-at : need.write-pair-index-space-at
 write-pair-index-space-at t c = omega (arith, mixed-length (c .args .size) (c .args .cells) (2 ^ (c .args .size / 2) - 1) (c .pre .mixed) refl)
@@ -67,10 +70,13 @@ pub write-pair-write-block-mid-requires : need.write-pair-write-block-mid-requir
 write-pair-write-block-mid-requires t c κs =
     let k = half-less (c .args .size) (c .pre .mixed .block .sized) (not-one (c .args .size) (c .args .cells) (c .pre .mixed)) in
     let low = low-is (c .args .cells) (c .args .size / 2) (c .full .result) (c .full .ensures) in
-    let len = mixed-length (c .args .size) (c .args .cells) (c .full .result) (c .pre .mixed) (c .full .ensures) in
-    ( omega arith,
-      ( subst (Block (c .args .size / 2)) (sym low) (low-block (c .args .size) (c .args .cells) (c .pre .mixed)),
-        omega (arith, len, length-set (c .args .space .now) (c .args .at) 40) ) )
+    let len = mixed-length (c .args .size) (c .args .cells) (c .full .result) (c .pre .mixed) (c .full .ensures) in (
+      omega arith,
+      (
+        subst (Block (c .args .size / 2)) (sym low) (low-block (c .args .size) (c .args .cells) (c .pre .mixed)),
+        omega (arith, len, length-set (c .args .space .now) (c .args .at) 40),
+      ),
+    )
 
 pub write-pair-shr-cells : need.write-pair-shr-cells
 write-pair-shr-cells t c = half-lt (c .args .size) (c .pre .mixed .block .sized) (not-one (c .args .size) (c .args .cells) (c .pre .mixed))
@@ -78,10 +84,13 @@ write-pair-shr-cells t c = half-lt (c .args .size) (c .pre .mixed .block .sized)
 pub write-pair-write-block-end-requires : need.write-pair-write-block-end-requires
 write-pair-write-block-end-requires t c κs =
     let k = half-less (c .args .size) (c .pre .mixed .block .sized) (not-one (c .args .size) (c .args .cells) (c .pre .mixed)) in
-    let len = mixed-length (c .args .size) (c .args .cells) (c .full .result) (c .pre .mixed) (c .full .ensures) in
-    ( omega arith,
-      ( high-block (c .args .size) (c .args .cells) (c .pre .mixed),
-        omega (arith, len, length-set (c .args .space .now) (c .args .at) 40) ) )
+    let len = mixed-length (c .args .size) (c .args .cells) (c .full .result) (c .pre .mixed) (c .full .ensures) in (
+      omega arith,
+      (
+        high-block (c .args .size) (c .args .cells) (c .pre .mixed),
+        omega (arith, len, length-set (c .args .space .now) (c .args .at) 40),
+      ),
+    )
 
 pub write-pair-index-space-end : need.write-pair-index-space-end
 write-pair-index-space-end t c =
@@ -101,9 +110,9 @@ write-pair-returns t c =
     record {
       end = omega (arith, len);
       bytes =
-        bracketed (c .args .space .now) (c .write-block-mid .last .space) (c .write-block-end .last .space) (c .args .at) (c .write-block-mid .result) (c .write-block-end .result)
+          bracketed (c .args .space .now) (c .write-block-mid .last .space) (c .write-block-end .last .space) (c .args .at) (c .write-block-mid .result) (c .write-block-end .result)
           (low-text (c .args .size) (c .args .cells) (c .full .result) (c .pre .mixed) (c .full .ensures)) (high-text (c .args .size) (c .args .cells) (c .full .result) (c .pre .mixed) (c .full .ensures))
           (omega (arith, len)) (c .write-block-mid .ensures .bytes) (c .write-block-mid .ensures .end) (c .write-block-end .ensures .bytes) (c .write-block-end .ensures .end)
           (omega (arith, len, length-set (c .args .space .now) (c .args .at) 40))
-        ∙ ap (placed (c .args .space .now) (c .args .at)) (sym w);
+          ∙ ap (placed (c .args .space .now) (c .args .at)) (sym w);
     }

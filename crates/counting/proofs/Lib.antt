@@ -1,0 +1,3 @@
+mod KindLaws
+mod Texts
+mod Balances
