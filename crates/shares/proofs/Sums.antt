@@ -66,7 +66,7 @@ module _ {S : Type 0} (K : Kind S) where
     pub nothing-plus : (x : Option S) → plus? nothing x ≡ x
     nothing-plus x = plus-comm nothing x ∙ plus-nothing x
 
-    plus-swap : (x y z : Option S) → plus? x (plus? y z) ≡ plus? y (plus? x z)
+    pub plus-swap : (x y z : Option S) → plus? x (plus? y z) ≡ plus? y (plus? x z)
     plus-swap x y z = sym (plus-assoc x y z) ∙ ap (λ (w : Option S). plus? w z) (plus-comm x y) ∙ plus-assoc y x z
 
     pub together-append : (xs ys : List S) → together K (xs ++ ys) ≡ plus? (together K xs) (together K ys)
