@@ -67,10 +67,11 @@ module _ {S : Type 0} (K : Kind S) where
       → (after ++ loans-of K (n - (i + 1)) (h .0) ≡ loans-of K n s) × (left-of K (n - (i + 1)) (h .0) ≡ left-of K n s)
   turn n i s left h before after l e p inv =
       let m = n - (i + 1) in
-      let more : suc m ≡ n - i = omega arith in
-      ( ap (λ xs. xs ++ loans-of K m (h .0)) p ∙ append-assoc before (loan h ∷ []) (loans-of K m (h .0))
-          ∙ ap (λ xs. before ++ xs) (sym (loans-more m left h e) ∙ ap (λ k. loans-of K k left) more) ∙ inv .0,
-        sym (left-more m left h e) ∙ ap (λ k. left-of K k left) more ∙ inv .1 )
+      let more : suc m ≡ n - i = omega arith in (
+        ap (λ xs. xs ++ loans-of K m (h .0)) p ∙ append-assoc before (loan h ∷ []) (loans-of K m (h .0))
+            ∙ ap (λ xs. before ++ xs) (sym (loans-more m left h e) ∙ ap (λ k. loans-of K k left) more) ∙ inv .0,
+        sym (left-more m left h e) ∙ ap (λ k. left-of K k left) more ∙ inv .1,
+      )
 
   -- the end of the loop: every borrower is served, or what is left doesn't halve
   pub ended : (n i : ℕ) (s left : S) (loans : List (Loan S)) → (n ≤ i) ⊎ (K .halve left ≡ None)
@@ -78,6 +79,6 @@ module _ {S : Type 0} (K : Kind S) where
       → (loans ≡ loans-of K n s) × (left ≡ left-of K n s)
   ended n i s left loans (inl l) inv =
       let none : n - i ≡ 0 = omega arith in
-      ( sym (append-nil loans) ∙ ap (λ k. loans ++ loans-of K k left) (sym none) ∙ inv .0, ap (λ k. left-of K k left) (sym none) ∙ inv .1 )
+      (sym (append-nil loans) ∙ ap (λ k. loans ++ loans-of K k left) (sym none) ∙ inv .0, ap (λ k. left-of K k left) (sym none) ∙ inv .1)
   ended n i s left loans (inr e) inv =
-      ( sym (append-nil loans) ∙ ap (λ xs. loans ++ xs) (sym (loans-end (n - i) left e)) ∙ inv .0, sym (left-end (n - i) left e) ∙ inv .1 )
+      (sym (append-nil loans) ∙ ap (λ xs. loans ++ xs) (sym (loans-end (n - i) left e)) ∙ inv .0, sym (left-end (n - i) left e) ∙ inv .1)

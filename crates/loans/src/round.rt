@@ -35,7 +35,10 @@ fn lend<S: Share>(heap: Global, share: S, borrowers: usize) -> Result<SharedOut<
         let Some(halves) = left.halve() else {
             break;
         };
-        loans.push(Loan { lent: halves.1, kept: halves.0 })?;
+        loans.push(Loan {
+            lent: halves.1,
+            kept: halves.0,
+        })?;
         left = halves.0;
     }
     Ok(SharedOut { loans, left })

@@ -30,8 +30,8 @@ loop-loan-again g c =
     let slice : c .as-slice-loan-items .result .now ≡ loans = c .as-slice-loan-items .ensures .value in
     let x = c .loan-item .result in
     next (c .args .out .now .left) loans (c .loop-loan .loan-index) x (vec-items (c .loop-loan .shares)) (vec-items (c .push-in-loop-loan .last .self))
-      (omega (arith, c .loop-loan-test .taken, ap length slice)) (c .loan-item .is ∙ ap (λ xs. getD xs (c .loop-loan .loan-index) x) slice) (c .loop-loan .inv)
-      (pushed {was = vec-items (c .loop-loan .shares)} (x .lent ∷ []) refl (c .in-Continue-push-2 .was tt) (c .push-in-loop-loan .ensures .items))
+    (omega (arith, c .loop-loan-test .taken, ap length slice)) (c .loan-item .is ∙ ap (λ xs. getD xs (c .loop-loan .loan-index) x) slice) (c .loop-loan .inv)
+    (pushed {was = vec-items (c .loop-loan .shares)} (x .lent ∷ []) refl (c .in-Continue-push-2 .was tt) (c .push-in-loop-loan .ensures .items))
 
 -- what the loop has gathered is all the shares
 gathered : {S : Type 0} (left : S) (loans slice : List (Loan S)) (i : ℕ) (shares : List S) → slice ≡ loans → length slice ≤ i → shares ≡ left ∷ lent-shares (take i loans) → shares ≡ left ∷ lent-shares loans
@@ -42,7 +42,7 @@ unreachable-requires g c κs =
     let K = g .S·Share .kind in
     let out = c .args .out .now in
     let all = gathered (out .left) (vec-items (out .loans)) (c .as-slice-loan-items .result .now) (c .loop-loan .loan-index) (vec-items (c .loop-loan .shares))
-        (c .as-slice-loan-items .ensures .value) (c .loop-loan-test .left) (c .loop-loan .inv) in
+    (c .as-slice-loan-items .ensures .value) (c .loop-loan-test .left) (c .loop-loan .inv) in
     let sum : None ≡ Some (K .whole) = sym (c .in-None .is) ∙ c .join-all .ensures .is ∙ ap (together K) (c .deref .ensures .value ∙ all) ∙ c .pre in
     let z : _≡_ {A = ℕ} 0 1 = cc in omega arith
 
@@ -51,6 +51,6 @@ returns g c =
     let K = g .S·Share .kind in
     let out = c .args .out .now in
     let all = gathered (out .left) (vec-items (out .loans)) (c .as-slice-loan-items .result .now) (c .loop-loan .loan-index) (vec-items (c .loop-loan .shares))
-        (c .as-slice-loan-items .ensures .value) (c .loop-loan-test .left) (c .loop-loan .inv) in
+    (c .as-slice-loan-items .ensures .value) (c .loop-loan-test .left) (c .loop-loan .inv) in
     let sum : Some (c .in-Some .back) ≡ Some (K .whole) = sym (c .in-Some .is) ∙ c .join-all .ensures .is ∙ ap (together K) (c .deref .ensures .value ∙ all) ∙ c .pre in
     cc

@@ -1,7 +1,7 @@
 use mathlib.Core.Path.{refl}
 use Rattle.trees.specs.Cells.{cut}
 use Rattle.counting.specs.Counts.{of-permission}
-use Rattle.kinds.proofs.worked.worked_examples_hold.Needs as need
+use Rattle.worked.proofs.worked.worked_examples_hold.Needs as need
 
 -- each by evaluation
 pub returns : need.returns
