@@ -10,7 +10,7 @@ use lib.Dec.{T}
 use Rattle.std.specs.declared.option.Option.{Option}
 use Rattle.std.specs.declared.option.Option.the-variants.{Some, None}
 use Rattle.shares.specs.Kind.{Kind, Laws, then}
-use Rattle.shares.specs.Joins.{Grouping, leaves, grouped, JoinTo, together, Joins-every-way}
+use Rattle.shares.specs.Joins.{Grouping, leaves, grouped, together, Joins-every-way}
 use Rattle.shares.specs.Joins.Grouping.{one, both}
 
 decides : {A : Type 0} (b : Bool) → (T b → A) → (A → T b) → Dec A

@@ -3,11 +3,8 @@ ghost use mathlib.Core.Path.{_≡_};
 ghost use Rattle.std.specs.Of.String.{string-bytes};
 ghost use Rattle.std.specs.Text.{Utf8};
 ghost use Rattle.std.specs.Vec.{made};
-use counting::Counting;
-use counting::CountingPrinted;
-use counting::CountingShare;
-use kinds::KindOfShare;
-use kinds::kind_named;
+use kinds::of_kind;
+use kinds::*;
 use loans::Loan;
 use loans::Round;
 use loans::SharedOut;
@@ -16,13 +13,6 @@ use shares::Printed;
 use std::alloc::AllocError;
 use std::alloc::Global;
 use std::error::AnyError;
-use trees::Trees;
-use trees::TreesPrinted;
-use trees::TreesShare;
-
-// What is said of a line that can't be read.
-const EXPECTED: &str =
-    "expected a kind of share (trees or counting) and how many borrowers (0 to 65535), as in: trees 5";
 
 // What a line asks for: a resource of this kind, shared out among so many borrowers.
 #[derive(Clone, Copy)]
@@ -43,7 +33,7 @@ fn answer_all(rt: &LibcRuntime) -> Result<(), AnyError> {
         answer(rt, line?.as_str())?;
     }
     if lines == 0 {
-        println!(rt, "{EXPECTED}")?;
+        say_what_is_expected(rt)?;
     }
     Ok(())
 }
@@ -51,26 +41,27 @@ fn answer_all(rt: &LibcRuntime) -> Result<(), AnyError> {
 // Does what one line asks for, and prints what was done.
 fn answer(rt: &LibcRuntime, line: &str) -> Result<(), AnyError> {
     let Some(order) = read_order(line) else {
-        println!(rt, "{EXPECTED}")?;
-        return Ok(());
+        return say_what_is_expected(rt);
     };
+    let name = order.kind.name();
     let borrowers = order.borrowers;
-    match order.kind {
-        KindOfShare::Trees => {
-            println!(rt, "trees, borrowers: {borrowers}")?;
-            share_out::<Trees>(rt, borrowers)
-        }
-        KindOfShare::Counting => {
-            println!(rt, "counting, borrowers: {borrowers}")?;
-            share_out::<Counting>(rt, borrowers)
-        }
-    }
+    println!(rt, "{name}, borrowers: {borrowers}")?;
+    of_kind!(order.kind, share_out(rt, borrowers))
+}
+
+// What is said where there is no order to read.
+fn say_what_is_expected(rt: &LibcRuntime) -> Result<(), AnyError> {
+    println!(
+        rt,
+        "expected a kind of share ({KIND_NAMES}) and how many borrowers (0 to 65535), as in: trees 5"
+    )?;
+    Ok(())
 }
 
 // Reads an order: the name of a kind and a number, two words.
 fn read_order(line: &str) -> Option<Order> {
     let mut words = line.split_whitespace();
-    let kind = kind_named(words.next()?)?;
+    let kind = KindOfShare::named(words.next()?)?;
     let borrowers = words.next()?.parse::<u16>().ok()?;
     if words.next().is_some() {
         return None;

@@ -1,8 +1,8 @@
 -- What a block keeps where its filled leaves are cut in two, and its text: those of its two halves.
 use mathlib.Core.Path.{_≡_, refl, sym, ap, ap₂, subst, _∙_}
 use mathlib.Core.Bool.{Bool, true, false, cond}
-use mathlib.Core.List.{List, [], _∷_, _++_}
-use Prim.Native.Nat.{ℕ, zero, suc, _+_, _-_, _*_, _/_, _%_, _^_, _≤_, _<_}
+use mathlib.Core.List.{[], _∷_, _++_}
+use Prim.Native.Nat.{ℕ, zero, suc, _+_, _-_, _*_, _/_, _%_, _^_, _<_}
 use native.Mathlib.Omega.{arith}
 use native.Mathlib.Nat.{zero-mul, mod-lt}
 use lib.Dec.{eqb}
@@ -12,21 +12,12 @@ use mathlib.Core.Logic.{_⊎_, inl, inr}
 use Rattle.std.proofs.shelf.Tests.{cases-eq, cond-true, cond-false, eq-eqb, ne-eqb, or-from, or-left, or-right}
 use Rattle.std.specs.declared.option.Option.{Option}
 use Rattle.std.specs.declared.option.Option.the-variants.{Some, None}
-use Rattle.trees.specs.Tree.{Tree, leaf, node, fold, kept, has-filled-cell, text}
+use Rattle.trees.specs.Tree.{Tree, leaf, node, kept, has-filled-cell, text}
 use Rattle.trees.specs.Cells.{span, tree-of, cells-of}
 use Rattle.trees.specs.Block.{Block, Mixed, level, kept-cells, kept-of, text-of}
-use Rattle.trees.proofs.TreesOfCells.{cells-tree, tree-empty, tree-full}
+use Rattle.trees.proofs.TreesOfCells.{tree-empty, tree-full, tree-mixed}
 use Rattle.trees.proofs.Halving.{cells-lt}
 use Rattle.trees.proofs.Sizes.{Halving, halving, size-range, two-halves}
-
-fold-node : (l r : Tree) → (fold l r ≡ leaf true → ⊥) → (fold l r ≡ leaf false → ⊥) → fold l r ≡ node l r
-fold-node (leaf true) (leaf true) p q = absurd (p refl)
-fold-node (leaf true) (leaf false) p q = refl
-fold-node (leaf true) (node a b) p q = refl
-fold-node (leaf false) (leaf true) p q = refl
-fold-node (leaf false) (leaf false) p q = absurd (q refl)
-fold-node (leaf false) (node a b) p q = refl
-fold-node (node a b) r p q = refl
 
 -- a block is mixed where the code's two tests have failed
 pub mixed : (size cells ones : ℕ) → Block size cells → (cells ≡ 0 → ⊥) → (cells ≡ ones → ⊥) → ones ≡ 2 ^ size - 1 → Mixed size cells
@@ -127,13 +118,10 @@ module _ (size cells : ℕ) (m : Mixed size cells) where
   tree-pair : tree-of (level size) cells ≡ node low-tree high-tree
   tree-pair =
       let H = halving size (m .block .sized) several in
-      let fits : cells < 2 ^ span (level size) = subst (λ s. cells < 2 ^ s) (m .block .sized) (m .block .fits) in
-      let e : tree-of (level size) cells ≡ fold low-tree high-tree =
+      let sized : size ≡ span (suc (H .h)) = H .size-is in
       ap (λ k. tree-of k cells) (H .level-is)
-      ∙ sym (ap₂ (λ k w. fold (tree-of k (cells % 2 ^ w)) (tree-of k (cells / 2 ^ w))) (H .half-level) (H .half-is)) in
-      let back : (t : Tree) → tree-of (level size) cells ≡ t → cells ≡ cells-of (level size) t = λ t q. sym (cells-tree (level size) cells fits) ∙ ap (cells-of (level size)) q in
-      e ∙ fold-node low-tree high-tree
-      (λ q. m .not-all (back (leaf true) (e ∙ q) ∙ ap (λ s. 2 ^ s - 1) (sym (m .block .sized)))) (λ q. m .some (back (leaf false) (e ∙ q)))
+      ∙ tree-mixed (H .h) cells (subst (λ s. cells < 2 ^ s) sized (m .block .fits)) (m .some) (λ q. m .not-all (q ∙ ap (λ s. 2 ^ s - 1) (sym sized)))
+      ∙ sym (ap₂ (λ k w. node (tree-of k (cells % 2 ^ w)) (tree-of k (cells / 2 ^ w))) (H .half-level) (H .half-is))
 
   pub text-pair : text-of size cells ≡ 40 ∷ (text-of (size / 2) (cells % 2 ^ (size / 2)) ++ (text-of (size / 2) (cells / 2 ^ (size / 2)) ++ (41 ∷ [])))
   unfolding text-of

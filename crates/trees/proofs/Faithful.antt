@@ -13,9 +13,9 @@ use Rattle.std.specs.declared.option.Option.the-variants.{Some, None}
 use Rattle.shares.specs.Kind.{then}
 use Rattle.trees.specs.declared.trees.Trees.{Trees}
 use Rattle.trees.specs.Tree.{Tree, leaf, node, ●, ○, Alike, Canonical, fold, _⊓_, _⋈_, kept, lent, height, has-filled-cell, text}
-use Rattle.trees.specs.Cells.{span, tree-of, cells-of, tree, share, union, halves}
+use Rattle.trees.specs.Cells.{span, tree-of, cells-of, tree, text-of-share, share, union, halves}
 use Rattle.trees.specs.Canonical.{Shares-are-canonical-trees}
-use Rattle.trees.proofs.TreesOfCells.{tree-or, tree-and, tree-exact, cells-tree, tree-empty, tree-full}
+use Rattle.trees.proofs.TreesOfCells.{tree-or, tree-and, tree-exact, cells-tree, tree-empty, tree-full, tree-mixed}
 use Rattle.trees.proofs.Halving.{cells-lt, half-height}
 use Rattle.trees.proofs.Texts.{text-exact, text-short}
 use Rattle.trees.proofs.KindLaws.{same-trees, sum, union-some, union-is, both, halves-is, halves-refused, cut-refused, cut-empty, cut-cell}
@@ -127,14 +127,17 @@ canonical-trees = record {
       ap (tree-of 6) (u .1 ∙ sym (or-disjoint (a .cells) (b .cells) (u .0))) ∙ tree-or 6 (a .cells) (b .cells) (a .fits) (b .fits);
   halved = halved;
   refused = λ a. (refused-only a, refused-then a);
+  full-block = λ h. ap text (tree-full h);
+  empty-block = λ h. ap text (tree-empty h);
+  mixed-block = λ h n p z f. ap text (tree-mixed h n p z f);
 }
 
-pub short : (a : Trees) → length (text (tree a)) ≤ 190
+pub short : (a : Trees) → length (text-of-share a) ≤ 190
 short a = text-short 6 (a .cells)
 
 -- equal texts, equal trees, equal shares
-pub tells : (a b : Trees) → (text (tree a) ≡ text (tree b)) ↔ (a ≡ b)
+pub tells : (a b : Trees) → (text-of-share a ≡ text-of-share b) ↔ (a ≡ b)
 tells a b = (
   (λ e. same-trees a b (tree-exact 6 (a .cells) (b .cells) (a .fits) (b .fits) (text-exact (tree a) (tree b) [] [] (ap (λ x. x ++ []) e) .0))),
-  (λ e. ap (λ s. text (tree s)) e),
+  (λ e. ap text-of-share e),
 )

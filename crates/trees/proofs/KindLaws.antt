@@ -65,10 +65,10 @@ commutes a b = go (cases-eq (bitAnd (a .cells) (b .cells)) 0)
     go (inl d) = union-some a b (sum a b d) d refl ∙ sym (union-some b a (sum a b d) (and-comm (b .cells) (a .cells) ∙ d) (add-comm (a .cells) (b .cells)))
     go (inr d) = union-none a b d ∙ sym (union-none b a (λ e. d (and-comm (a .cells) (b .cells) ∙ e)))
 
--- three shares joined from the lower: defined exactly where each two are apart
-lower-none : (a b c : Trees) → ((bitAnd (a .cells) (b .cells) ≡ 0) → (bitAnd (a .cells) (c .cells) ≡ 0) → (bitAnd (b .cells) (c .cells) ≡ 0) → ⊥) → then (union a b) (λ ab. union ab c) ≡ None
+-- three shares joined from the left: defined exactly where each two are apart
+left-none : (a b c : Trees) → ((bitAnd (a .cells) (b .cells) ≡ 0) → (bitAnd (a .cells) (c .cells) ≡ 0) → (bitAnd (b .cells) (c .cells) ≡ 0) → ⊥) → then (union a b) (λ ab. union ab c) ≡ None
 unfolding sum
-lower-none a b c n = go (cases-eq (bitAnd (a .cells) (b .cells)) 0)
+left-none a b c n = go (cases-eq (bitAnd (a .cells) (b .cells)) 0)
   where
     go : (bitAnd (a .cells) (b .cells) ≡ 0) ⊎ (bitAnd (a .cells) (b .cells) ≡ 0 → ⊥) → then (union a b) (λ ab. union ab c) ≡ None
     go (inl d) =
@@ -76,13 +76,13 @@ lower-none a b c n = go (cases-eq (bitAnd (a .cells) (b .cells)) 0)
         ∙ union-none (sum a b d) c (λ e. let p = apart-parts (a .cells) (b .cells) (c .cells) d e in n d (p .0) (p .1))
     go (inr d) = ap (λ o. then o (λ ab. union ab c)) (union-none a b d)
 
-lower-some : (a b c s : Trees) → bitAnd (a .cells) (b .cells) ≡ 0 → bitAnd (a .cells) (c .cells) ≡ 0 → bitAnd (b .cells) (c .cells) ≡ 0 → s .cells ≡ a .cells + b .cells + c .cells → then (union a b) (λ ab. union ab c) ≡ Some s
+left-some : (a b c s : Trees) → bitAnd (a .cells) (b .cells) ≡ 0 → bitAnd (a .cells) (c .cells) ≡ 0 → bitAnd (b .cells) (c .cells) ≡ 0 → s .cells ≡ a .cells + b .cells + c .cells → then (union a b) (λ ab. union ab c) ≡ Some s
 unfolding sum
-lower-some a b c s d e f g =
+left-some a b c s d e f g =
     ap (λ o. then o (λ ab. union ab c)) (union-some a b (sum a b d) d refl)
     ∙ union-some (sum a b d) c s (apart-union (a .cells) (b .cells) (c .cells) d e f) g
 
--- from the upper is from the lower in the other order
+-- from the right is from the left in the other order
 turn : (a b c : Trees) → then (union b c) (λ bc. union a bc) ≡ then (union b c) (λ bc. union bc a)
 turn a b c = go (union b c)
   where
@@ -98,13 +98,13 @@ associates a b c = go (cases-eq (bitAnd (a .cells) (b .cells)) 0) (cases-eq (bit
     swap x y e = and-comm (y .cells) (x .cells) ∙ e
 
     neither : ((bitAnd (a .cells) (b .cells) ≡ 0) → (bitAnd (a .cells) (c .cells) ≡ 0) → (bitAnd (b .cells) (c .cells) ≡ 0) → ⊥) → then (union a b) (λ ab. union ab c) ≡ then (union b c) (λ bc. union bc a)
-    neither n = lower-none a b c n ∙ sym (lower-none b c a (λ p q r. n (swap b a q) (swap c a r) p))
+    neither n = left-none a b c n ∙ sym (left-none b c a (λ p q r. n (swap b a q) (swap c a r) p))
 
     go : (bitAnd (a .cells) (b .cells) ≡ 0) ⊎ (bitAnd (a .cells) (b .cells) ≡ 0 → ⊥) → (bitAnd (a .cells) (c .cells) ≡ 0) ⊎ (bitAnd (a .cells) (c .cells) ≡ 0 → ⊥) → (bitAnd (b .cells) (c .cells) ≡ 0) ⊎ (bitAnd (b .cells) (c .cells) ≡ 0 → ⊥)
         → then (union a b) (λ ab. union ab c) ≡ then (union b c) (λ bc. union bc a)
     go (inl p) (inl q) (inl r) =
         let s = sum (sum a b p) c (apart-union (a .cells) (b .cells) (c .cells) p q r) in
-        lower-some a b c s p q r refl ∙ sym (lower-some b c a s r (swap a b p) (swap a c q) (omega arith))
+        left-some a b c s p q r refl ∙ sym (left-some b c a s r (swap a b p) (swap a c q) (omega arith))
     go (inl p) (inl q) (inr r) = neither (λ x y z. r z)
     go (inl p) (inr q) w = neither (λ x y z. q y)
     go (inr p) v w = neither (λ x y z. p x)

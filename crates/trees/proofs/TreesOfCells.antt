@@ -132,3 +132,19 @@ tree-full (suc h) =
     (ap (λ x. x % 2 ^ span h) (ones-split h) ∙ digits-mod (2 ^ span h - 1) (ones-lt (span h)))
     (ap (λ x. x / 2 ^ span h) (ones-split h) ∙ digits-div (2 ^ span h - 1) (ones-lt (span h)))
     ∙ ap₂ fold (tree-full h) (tree-full h)
+
+fold-node : (l r : Tree) → (fold l r ≡ leaf true → ⊥) → (fold l r ≡ leaf false → ⊥) → fold l r ≡ node l r
+fold-node (leaf true) (leaf true) p q = absurd (p refl)
+fold-node (leaf true) (leaf false) p q = refl
+fold-node (leaf true) (node a b) p q = refl
+fold-node (leaf false) (leaf true) p q = refl
+fold-node (leaf false) (leaf false) p q = absurd (q refl)
+fold-node (leaf false) (node a b) p q = refl
+fold-node (node a b) r p q = refl
+
+-- the tree of a block that is neither empty nor full is a node
+pub tree-mixed : (h n : ℕ) → n < 2 ^ span (suc h) → (n ≡ 0 → ⊥) → (n ≡ 2 ^ span (suc h) - 1 → ⊥)
+    → tree-of (suc h) n ≡ node (tree-of h (n % 2 ^ span h)) (tree-of h (n / 2 ^ span h))
+tree-mixed h n p z f =
+    let back : (t : Tree) → tree-of (suc h) n ≡ t → n ≡ cells-of (suc h) t = λ t q. sym (cells-tree (suc h) n p) ∙ ap (cells-of (suc h)) q in
+    fold-node (tree-of h (n % 2 ^ span h)) (tree-of h (n / 2 ^ span h)) (λ q. f (back (leaf true) q)) (λ q. z (back (leaf false) q))

@@ -1,5 +1,6 @@
 -- Tree shares as sets of the cells 0 to 63, and the tree of each.
 use mathlib.Core.Bool.{Bool, true, false, cond, _||_}
+use mathlib.Core.List.{List}
 use Prim.Native.Nat.{ℕ, zero, suc, _+_, _-_, _*_, _/_, _%_, _^_}
 use native.Mathlib.Nat.{mod-lt}
 use lib.Bits.{bitAnd, bitOr}
@@ -9,7 +10,7 @@ use Rattle.std.specs.declared.option.Option.{Option}
 use Rattle.std.specs.declared.option.Option.the-variants.{Some, None}
 use Rattle.shares.specs.Kind.{Kind, then}
 use Rattle.trees.specs.declared.trees.Trees.{Trees}
-use Rattle.trees.specs.Tree.{Tree, leaf, node, fold, kept, lent, has-filled-cell}
+use Rattle.trees.specs.Tree.{Tree, leaf, node, fold, kept, lent, has-filled-cell, text}
 
 -- the share whose cells are the bits of n, of which the first 64 count
 abbrev pub of-cells : ℕ → Trees
@@ -39,6 +40,10 @@ cells-of (suc h) (node l r) = cells-of h r * 2 ^ span h + cells-of h l
 -- the tree of a share
 abbrev pub tree : Trees → Tree
 tree s = tree-of 6 (s .cells)
+
+-- the text of a share
+abbrev pub text-of-share : Trees → List ℕ
+text-of-share s = text (tree s)
 
 -- the share of a tree
 abbrev pub share : Tree → Trees

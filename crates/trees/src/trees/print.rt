@@ -3,7 +3,7 @@ ghost use Prim.Native.Nat.{_+_, _≤_};
 ghost use lib.ListN.{length};
 ghost use Rattle.shares.specs.Text.{in-front};
 ghost use Rattle.trees.specs.Tree.{text};
-ghost use Rattle.trees.specs.Cells.{tree-of, tree};
+ghost use Rattle.trees.specs.Cells.{tree-of, text-of-share};
 ghost use Rattle.trees.specs.Block.{Block, Mixed, text-of, placed};
 use crate::trees::Trees;
 use crate::trees::full;
@@ -11,7 +11,7 @@ use crate::trees::kind::TreesShare;
 use shares::Printed;
 
 pub impl Printed for Trees as TreesPrinted {
-    ghost text = { λ s. text (tree s) };
+    ghost text = { text-of-share };
 
     fn write(self, space: &mut [u8; 190]) -> usize {
         write_cells(self.cells, space)

@@ -10,7 +10,7 @@ use Rattle.std.proofs.shelf.Results.{made-from-err}
 use Rattle.std.specs.declared.option.Option.the-variants.{Some, None}
 use Rattle.shares.specs.Joins.{together}
 use Rattle.loans.specs.declared.loan.Loan.{Loan}
-use Rattle.loans.specs.Loans.{lent-shares, all-shares}
+use Rattle.loans.specs.Loans.{lent-shares}
 use Rattle.loans.proofs.Shared.{lent-push}
 use Rattle.loans.proofs.round.take_back.Needs as need
 

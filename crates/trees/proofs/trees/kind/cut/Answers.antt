@@ -1,15 +1,13 @@
 use mathlib.Core.Path.{_≡_, refl, sym, _∙_}
-use mathlib.Core.Bool.{true, false}
-use Prim.Native.Nat.{ℕ, _≤_}
+use Prim.Native.Nat.{ℕ}
 use native.Mathlib.Omega.{arith}
-use Rattle.std.specs.declared.option.Option.the-variants.{Some, None}
-use Rattle.trees.specs.Tree.{kept, lent, has-filled-cell}
-use Rattle.trees.specs.Cells.{tree-of, cells-of}
-use Rattle.trees.specs.Block.{Block, level, kept-cells, kept-of}
+use Rattle.trees.specs.Tree.{kept}
+use Rattle.trees.specs.Cells.{tree-of}
+use Rattle.trees.specs.Block.{level, kept-cells, kept-of}
 use Rattle.trees.proofs.TreesOfCells.{cells-tree}
 use Rattle.trees.proofs.Halving.{halves-add}
 use Rattle.trees.proofs.Blocks.{kept-is, refused-is}
-use Rattle.trees.proofs.KindLaws.{Cut, cut-made, cut-empty, cut-cell}
+use Rattle.trees.proofs.KindLaws.{cut-made, cut-empty, cut-cell}
 use Rattle.trees.proofs.trees.kind.cut.Needs as need
 
 -- the block of all 64 cells

@@ -1,9 +1,9 @@
 use mathlib.Core.Path.{_≡_, refl, ap, _∙_}
 use mathlib.Core.List.{List}
-use Prim.Native.Nat.{ℕ, _+_}
+use Prim.Native.Nat.{ℕ}
 use native.Mathlib.Omega.{arith}
 use native.Mathlib.Nat.{zero-add}
-use lib.ListN.{length, drop}
+use lib.ListN.{length}
 use Rattle.shares.specs.Text.{in-front}
 use Rattle.trees.specs.Tree.{text}
 use Rattle.trees.specs.Cells.{tree-of}
