@@ -21,7 +21,7 @@ module _ {S : Type 0} where
   grouped K (one s) = Some s
   grouped K (both x y) = then (grouped K x) (λ a. then (grouped K y) (λ b. K .join a b))
 
-  -- the shares join, in every order and grouping, to s
+  -- the shares join, in every order and grouping, to s; where there are no shares it says nothing
   abbrev pub JoinTo : Kind S → List S → S → Type 0
   JoinTo K shares s = (g : Grouping S) → Perm (leaves g) shares → grouped K g ≡ Some s
 

@@ -19,6 +19,7 @@ pub record Kind (S : Type 0) : Type 0 where
   pub join : S → S → Option S
   -- the half kept and the half lent; None where halving is refused
   pub halve : S → Option (S × S)
+  -- whether two shares are equal
   pub same : S → S → Bool
 
 -- The laws of a kind. Where two joins are equal, each is defined exactly when the other is.

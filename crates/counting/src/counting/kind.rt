@@ -1,8 +1,5 @@
 ghost use mathlib.Core.Path.{_≡_};
-ghost use mathlib.Core.Bool.{true, cond};
-ghost use Prim.Native.Nat.{_-_};
-ghost use lib.Dec.{leb};
-ghost use Rattle.std.specs.declared.option.Option.the-variants.{Some, None};
+ghost use mathlib.Core.Bool.{true};
 ghost use Rattle.counting.specs.Limits.{within};
 ghost use Rattle.counting.specs.Counts.{of-permission, counted, plus, less, alike, counting-kind};
 use crate::counting::Counting;
@@ -84,7 +81,7 @@ fn plus(a: Permission, b: Permission) -> Option<Permission>
 
 // A source that has given out `n` readers, with `k` of them back.
 fn given_back(n: u16, k: u16) -> Option<Permission>
-    ensures { λ r. ⌜ r ≡ cond (leb k n) (Some (Permission.Source (n - k))) None ⌝ }
+    ensures { λ r. ⌜ r ≡ plus (Permission.Source n) (Permission.Readers k) ⌝ }
 {
     if k <= n {
         Some(Permission::Source(n - k))
