@@ -13,6 +13,7 @@ use shares::Printed;
 use std::alloc::AllocError;
 use std::alloc::Global;
 use std::error::AnyError;
+use std::io::ErrorKind;
 
 // What a line asks for: a resource of this kind, shared out among so many borrowers.
 #[derive(Clone, Copy)]
@@ -30,7 +31,11 @@ fn answer_all(rt: &LibcRuntime) -> Result<(), AnyError> {
     let mut lines = 0u64;
     for line in rt.lines(rt.alloc()) {
         lines = lines.saturating_add(1);
-        answer(rt, line?.as_str())?;
+        match line {
+            Ok(line) => answer(rt, line.as_str())?,
+            Err(error) if error.kind() == ErrorKind::InvalidData => say_what_is_expected(rt)?,
+            Err(error) => return Err(error.into()),
+        }
     }
     if lines == 0 {
         say_what_is_expected(rt)?;
