@@ -4,7 +4,7 @@ ghost use Prim.Native.Nat.{_-_, _/_, _≤_, _^_};
 ghost use lib.Dec.{eqb};
 ghost use Rattle.std.specs.declared.option.Option.the-variants.{Some, None};
 ghost use Rattle.trees.specs.Cells.{of-cells, cut, trees-kind};
-ghost use Rattle.trees.specs.Block.{Block, kept-of};
+ghost use Rattle.trees.specs.Block.{Block, Mixed, kept-of};
 use crate::trees::Trees;
 use crate::trees::full;
 use shares::Share;
@@ -67,6 +67,14 @@ fn lower(cells: u64, size: u32) -> Option<u64>
     if cells == full(size) {
         return lower_leaf(size);
     }
+    lower_pair(cells, size)
+}
+
+// The same for a mixed block, by its two halves.
+fn lower_pair(cells: u64, size: u32) -> Option<u64>
+    requires { ⌜ Mixed size cells ⌝ }
+    ensures { λ r. ⌜ r ≡ kept-of size cells ⌝ }
+{
     let half = size / 2;
     let low = lower(cells & full(half), half)?;
     let high = lower(cells >> half, half)?;
