@@ -1,5 +1,5 @@
 #!/usr/bin/env python3
-"""The program `sharing` once more, written from docs/SHARES.md alone: shares no code and no representation with crates/.
+"""The program `sharing` once more, by the rules of docs/SHARES.md: shares no code and no representation with crates/.
 
 A tree share is a set of cell numbers; a counting share is a pair of a letter and a number. Reads orders from standard
 input and prints what `sharing` should print.
