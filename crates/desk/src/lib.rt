@@ -2,6 +2,8 @@
 // leaves the whole office as it was (`same`), and the lending promise, whole: whatever list of calls led here from an
 // office that was set up empty, nobody gets back more or less than went out once this call is made (`conserved`), and so
 // it is for every list of calls (`always`). `lending_is_conserved` does nothing: it brings the theorem to the contract.
+#![tactic(auto)]
+
 mod call;
 mod calls;
 mod questions;

@@ -1,4 +1,6 @@
 // The kinds of share that the house uses. This crate alone lists them: a new kind is added here.
+#![tactic(auto)]
+
 mod kind;
 
 pub use counting::Counting;

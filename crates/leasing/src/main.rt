@@ -1,4 +1,6 @@
 // Takes calls to an office, a line each, and prints each call, its answer and the roll after it.
+#![tactic(auto)]
+
 mod answer;
 mod read;
 mod show;

@@ -1,4 +1,6 @@
 // Loans of a whole resource to borrowers in turn, and their return.
+#![tactic(auto)]
+
 mod loan;
 mod round;
 

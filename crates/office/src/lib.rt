@@ -1,5 +1,7 @@
 // What every office is, of whichever make: the trait that the ledger and the layers over it implement, and what a layer
 // passes on to the office below it.
+#![tactic(auto)]
+
 mod office;
 mod pass;
 

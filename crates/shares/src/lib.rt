@@ -1,4 +1,6 @@
 // Shares: what can be lent, how a share is cut in two, and how shares come together again.
+#![tactic(auto)]
+
 mod count;
 mod joins;
 mod printed;

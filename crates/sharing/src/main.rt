@@ -1,4 +1,6 @@
 // Shares a resource out among borrowers and takes every share back, once for each line of standard input.
+#![tactic(auto)]
+
 use kinds::{of_kind, *};
 use loans::{Loan, Round, SharedOut, lend_and_return};
 use shares::{Printed, text_of};

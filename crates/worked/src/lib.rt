@@ -1,4 +1,6 @@
 // Worked examples: proved of the definitions as one property, and run as tests of the code.
+#![tactic(auto)]
+
 mod worked;
 
 pub use worked::worked_examples_hold;
