@@ -11,11 +11,11 @@ use office::Office;
 
 // Opens a resource: the holder gets its first lease, with the whole. Answers its number.
 pub fn open<O: Office>(office: &mut O, resource: u16, holder: u16) -> Result<u16, Refusal>
-    ensures does { Does Kind-as-Share.kind (O.Office.meaning office.old) (open_resource resource holder) (told_number result) (O.Office.meaning office.new) }
+    ensures does { Does O.Kind.Share.kind (O.Office.meaning office.old) (open_resource resource holder) (told_number result) (O.Office.meaning office.new) }
     ensures same { is_ok result ≡ false → office.new ≡ office.old }
     ensures unused { unused (O.Office.rows office.new) ≡ unused (O.Office.rows office.old) }
-    ensures conserved { CallConserves Kind-as-Share.kind (O.Office.meaning office.old) (open_resource resource holder) (told_number result) (O.Office.meaning office.new) }
-    ensures always { LendingConserved Kind-as-Share.kind }
+    ensures conserved { CallConserves O.Kind.Share.kind (O.Office.meaning office.old) (open_resource resource holder) (told_number result) (O.Office.meaning office.new) }
+    ensures always { LendingConserved O.Kind.Share.kind }
 {
     lending_is_conserved::<O::Kind>();
     office.open(resource, holder)
@@ -28,11 +28,11 @@ pub fn delegate<O: Office>(
     holder: u16,
     due: u16,
 ) -> Result<u16, Refusal>
-    ensures does { Does Kind-as-Share.kind (O.Office.meaning office.old) (delegate lender holder due) (told_number result) (O.Office.meaning office.new) }
+    ensures does { Does O.Kind.Share.kind (O.Office.meaning office.old) (delegate lender holder due) (told_number result) (O.Office.meaning office.new) }
     ensures same { is_ok result ≡ false → office.new ≡ office.old }
     ensures unused { unused (O.Office.rows office.new) ≡ unused (O.Office.rows office.old) }
-    ensures conserved { CallConserves Kind-as-Share.kind (O.Office.meaning office.old) (delegate lender holder due) (told_number result) (O.Office.meaning office.new) }
-    ensures always { LendingConserved Kind-as-Share.kind }
+    ensures conserved { CallConserves O.Kind.Share.kind (O.Office.meaning office.old) (delegate lender holder due) (told_number result) (O.Office.meaning office.new) }
+    ensures always { LendingConserved O.Kind.Share.kind }
 {
     lending_is_conserved::<O::Kind>();
     office.delegate(lender, holder, due)
@@ -40,11 +40,11 @@ pub fn delegate<O: Office>(
 
 // Closes a lease, and joins its share to its lender's.
 pub fn yield_lease<O: Office>(office: &mut O, lease: u16) -> Result<(), Refusal>
-    ensures does { Does Kind-as-Share.kind (O.Office.meaning office.old) (yield lease) (told result) (O.Office.meaning office.new) }
+    ensures does { Does O.Kind.Share.kind (O.Office.meaning office.old) (yield lease) (told result) (O.Office.meaning office.new) }
     ensures same { is_ok result ≡ false → office.new ≡ office.old }
     ensures unused { unused (O.Office.rows office.new) ≡ unused (O.Office.rows office.old) }
-    ensures conserved { CallConserves Kind-as-Share.kind (O.Office.meaning office.old) (yield lease) (told result) (O.Office.meaning office.new) }
-    ensures always { LendingConserved Kind-as-Share.kind }
+    ensures conserved { CallConserves O.Kind.Share.kind (O.Office.meaning office.old) (yield lease) (told result) (O.Office.meaning office.new) }
+    ensures always { LendingConserved O.Kind.Share.kind }
 {
     lending_is_conserved::<O::Kind>();
     office.yield_lease(lease)
@@ -52,11 +52,11 @@ pub fn yield_lease<O: Office>(office: &mut O, lease: u16) -> Result<(), Refusal>
 
 // Closes lease b; lease a gets both shares, and lends what b lent.
 pub fn merge<O: Office>(office: &mut O, a: u16, b: u16) -> Result<(), Refusal>
-    ensures does { Does Kind-as-Share.kind (O.Office.meaning office.old) (merge a b) (told result) (O.Office.meaning office.new) }
+    ensures does { Does O.Kind.Share.kind (O.Office.meaning office.old) (merge a b) (told result) (O.Office.meaning office.new) }
     ensures same { is_ok result ≡ false → office.new ≡ office.old }
     ensures unused { unused (O.Office.rows office.new) ≡ unused (O.Office.rows office.old) }
-    ensures conserved { CallConserves Kind-as-Share.kind (O.Office.meaning office.old) (merge a b) (told result) (O.Office.meaning office.new) }
-    ensures always { LendingConserved Kind-as-Share.kind }
+    ensures conserved { CallConserves O.Kind.Share.kind (O.Office.meaning office.old) (merge a b) (told result) (O.Office.meaning office.new) }
+    ensures always { LendingConserved O.Kind.Share.kind }
 {
     lending_is_conserved::<O::Kind>();
     office.merge(a, b)
@@ -64,11 +64,11 @@ pub fn merge<O: Office>(office: &mut O, a: u16, b: u16) -> Result<(), Refusal>
 
 // Changes the holder of a lease.
 pub fn assign<O: Office>(office: &mut O, lease: u16, holder: u16) -> Result<(), Refusal>
-    ensures does { Does Kind-as-Share.kind (O.Office.meaning office.old) (assign lease holder) (told result) (O.Office.meaning office.new) }
+    ensures does { Does O.Kind.Share.kind (O.Office.meaning office.old) (assign lease holder) (told result) (O.Office.meaning office.new) }
     ensures same { is_ok result ≡ false → office.new ≡ office.old }
     ensures unused { unused (O.Office.rows office.new) ≡ unused (O.Office.rows office.old) }
-    ensures conserved { CallConserves Kind-as-Share.kind (O.Office.meaning office.old) (assign lease holder) (told result) (O.Office.meaning office.new) }
-    ensures always { LendingConserved Kind-as-Share.kind }
+    ensures conserved { CallConserves O.Kind.Share.kind (O.Office.meaning office.old) (assign lease holder) (told result) (O.Office.meaning office.new) }
+    ensures always { LendingConserved O.Kind.Share.kind }
 {
     lending_is_conserved::<O::Kind>();
     office.assign(lease, holder)
@@ -76,11 +76,11 @@ pub fn assign<O: Office>(office: &mut O, lease: u16, holder: u16) -> Result<(), 
 
 // Changes today.
 pub fn set_day<O: Office>(office: &mut O, day: u16) -> Result<(), Refusal>
-    ensures does { Does Kind-as-Share.kind (O.Office.meaning office.old) (new_day day) (told result) (O.Office.meaning office.new) }
+    ensures does { Does O.Kind.Share.kind (O.Office.meaning office.old) (new_day day) (told result) (O.Office.meaning office.new) }
     ensures same { is_ok result ≡ false → office.new ≡ office.old }
     ensures unused { unused (O.Office.rows office.new) ≡ unused (O.Office.rows office.old) }
-    ensures conserved { CallConserves Kind-as-Share.kind (O.Office.meaning office.old) (new_day day) (told result) (O.Office.meaning office.new) }
-    ensures always { LendingConserved Kind-as-Share.kind }
+    ensures conserved { CallConserves O.Kind.Share.kind (O.Office.meaning office.old) (new_day day) (told result) (O.Office.meaning office.new) }
+    ensures always { LendingConserved O.Kind.Share.kind }
 {
     lending_is_conserved::<O::Kind>();
     office.set_day(day)

@@ -10,9 +10,9 @@ use office::Office;
 
 // How many leases are live.
 pub fn count<O: Office>(office: &O) -> usize
-    ensures does { Does Kind-as-Share.kind (O.Office.meaning office.now) ask_count (number result) (O.Office.meaning office.now) }
-    ensures conserved { CallConserves Kind-as-Share.kind (O.Office.meaning office.now) ask_count (number result) (O.Office.meaning office.now) }
-    ensures always { LendingConserved Kind-as-Share.kind }
+    ensures does { Does O.Kind.Share.kind (O.Office.meaning office.now) ask_count (number result) (O.Office.meaning office.now) }
+    ensures conserved { CallConserves O.Kind.Share.kind (O.Office.meaning office.now) ask_count (number result) (O.Office.meaning office.now) }
+    ensures always { LendingConserved O.Kind.Share.kind }
 {
     lending_is_conserved::<O::Kind>();
     office.count()
@@ -20,9 +20,9 @@ pub fn count<O: Office>(office: &O) -> usize
 
 // How many numbers were issued.
 pub fn issued<O: Office>(office: &O) -> u16
-    ensures does { Does Kind-as-Share.kind (O.Office.meaning office.now) ask_issued (number result) (O.Office.meaning office.now) }
-    ensures conserved { CallConserves Kind-as-Share.kind (O.Office.meaning office.now) ask_issued (number result) (O.Office.meaning office.now) }
-    ensures always { LendingConserved Kind-as-Share.kind }
+    ensures does { Does O.Kind.Share.kind (O.Office.meaning office.now) ask_issued (number result) (O.Office.meaning office.now) }
+    ensures conserved { CallConserves O.Kind.Share.kind (O.Office.meaning office.now) ask_issued (number result) (O.Office.meaning office.now) }
+    ensures always { LendingConserved O.Kind.Share.kind }
 {
     lending_is_conserved::<O::Kind>();
     office.issued()
@@ -30,9 +30,9 @@ pub fn issued<O: Office>(office: &O) -> u16
 
 // Today.
 pub fn today<O: Office>(office: &O) -> u16
-    ensures does { Does Kind-as-Share.kind (O.Office.meaning office.now) ask_today (number result) (O.Office.meaning office.now) }
-    ensures conserved { CallConserves Kind-as-Share.kind (O.Office.meaning office.now) ask_today (number result) (O.Office.meaning office.now) }
-    ensures always { LendingConserved Kind-as-Share.kind }
+    ensures does { Does O.Kind.Share.kind (O.Office.meaning office.now) ask_today (number result) (O.Office.meaning office.now) }
+    ensures conserved { CallConserves O.Kind.Share.kind (O.Office.meaning office.now) ask_today (number result) (O.Office.meaning office.now) }
+    ensures always { LendingConserved O.Kind.Share.kind }
 {
     lending_is_conserved::<O::Kind>();
     office.today()

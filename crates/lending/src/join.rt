@@ -5,7 +5,7 @@ use shares::Share;
 
 // Both shares joined. Where they don't join, which no call of an office comes to, it is the first.
 pub fn join_or_keep<S: Share>(a: S, b: S) -> S
-    ensures { result ≡ plus kind a b }
+    ensures { result ≡ plus S.kind a b }
 {
     match a.join(b) {
         Some(both) => both,

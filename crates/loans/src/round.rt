@@ -9,9 +9,9 @@ use std::alloc::{AllocError, Global};
 // Lends a whole resource to so many borrowers, each of whom gets half of what the house still has, until that doesn't halve
 // any more. Then takes every share back, the first loan first.
 pub fn lend_and_return<S: Share>(heap: Global, borrowers: usize) -> Result<Round<S>, AllocError>
-    ensures lent { IfOk result (λ x. Lent kind borrowers kind.whole x.out) }
-    ensures joins { IfOk result (λ x. JoinTo kind (all_shares x.out) kind.whole) }
-    ensures back { IfOk result (λ x. x.back ≡ kind.whole) }
+    ensures lent { IfOk result (λ x. Lent S.kind borrowers S.kind.whole x.out) }
+    ensures joins { IfOk result (λ x. JoinTo S.kind (all_shares x.out) S.kind.whole) }
+    ensures back { IfOk result (λ x. x.back ≡ S.kind.whole) }
 {
     let out = lend(heap, S::whole(), borrowers)?;
     let back = take_back(heap, &out)?;
@@ -20,9 +20,9 @@ pub fn lend_and_return<S: Share>(heap: Global, borrowers: usize) -> Result<Round
 
 // Lends from one share to so many borrowers, as long as what is left halves.
 fn lend<S: Share>(heap: Global, share: S, borrowers: usize) -> Result<SharedOut<S>, AllocError>
-    ensures lent { IfOk result (λ out. Lent kind borrowers share out) }
-    ensures joins { IfOk result (λ out. JoinTo kind (all_shares out) share) }
-    ensures sum { IfOk result (λ out. together kind (all_shares out) ≡ Some share) }
+    ensures lent { IfOk result (λ out. Lent S.kind borrowers share out) }
+    ensures joins { IfOk result (λ out. JoinTo S.kind (all_shares out) share) }
+    ensures sum { IfOk result (λ out. together S.kind (all_shares out) ≡ Some share) }
 {
     let mut loans = Vec::new(heap);
     let mut left = share;
@@ -41,8 +41,8 @@ fn lend<S: Share>(heap: Global, share: S, borrowers: usize) -> Result<SharedOut<
 
 // Takes every share back, the first loan first.
 fn take_back<S: Share>(heap: Global, out: &SharedOut<S>) -> Result<S, AllocError>
-    requires { together kind (all_shares out.now) ≡ Some kind.whole }
-    ensures { IfOk result (λ back. back ≡ kind.whole) }
+    requires { together S.kind (all_shares out.now) ≡ Some S.kind.whole }
+    ensures { IfOk result (λ back. back ≡ S.kind.whole) }
 {
     let mut shares = Vec::new(heap);
     shares.push(out.left)?;

@@ -7,18 +7,18 @@ use crate::share::Share;
 // What some shares come to in whichever order and grouping they are joined, or None where they can't be held at once. No
 // shares at all come to the empty share.
 pub fn join_all<S: Share>(shares: &[S]) -> Option<S>
-    ensures is { result ≡ together kind shares.now }
-    ensures any_way { (g : Grouping S) → Perm (leaves g) shares.now → grouped kind g ≡ result }
-    ensures every_way { JoinsEveryWay kind }
+    ensures is { result ≡ together S.kind shares.now }
+    ensures any_way { (g : Grouping S) → Perm (leaves g) shares.now → grouped S.kind g ≡ result }
+    ensures every_way { JoinsEveryWay S.kind }
 {
     add_up(shares)
 }
 
 // The shares joined one after another, from the first on.
 fn add_up<S: Share>(shares: &[S]) -> Option<S>
-    ensures is { result ≡ together kind shares.now }
-    ensures any_way { (g : Grouping S) → Perm (leaves g) shares.now → grouped kind g ≡ result }
-    ensures every_way { JoinsEveryWay kind }
+    ensures is { result ≡ together S.kind shares.now }
+    ensures any_way { (g : Grouping S) → Perm (leaves g) shares.now → grouped S.kind g ≡ result }
+    ensures every_way { JoinsEveryWay S.kind }
 {
     let mut sum = S::empty();
     for s in shares {

@@ -10,7 +10,7 @@ pub loop-served-preserved : goal.loop-served-preserved
 loop-served-preserved g c =
     turn g.S.Share.kind c.args.borrowers c.loop-served.served c.args.share c.loop-served.left c.in-Some.halves
     (vec_items c.loop-served.loans) (vec_items c.push.new.self) c.loop-served-test.true (sym c.halve.ensures ∙ c.in-Some.is)
-    (pushed {was = vec_items c.loop-served.loans} (record { lent = c.in-Some.halves.1; kept = c.in-Some.halves.0 } ∷ []) refl c.in-ok-push.was c.push.ensures.items) c.loop-served.invariant
+    (pushed {was = vec_items c.loop-served.loans} (record { lent = c.in-Some.halves.1; kept = c.in-Some.halves.0 } ∷ []) refl c.in_ok-push.was c.push.ensures.items) c.loop-served.invariant
 
 pub returns : goal.returns
 returns g c =

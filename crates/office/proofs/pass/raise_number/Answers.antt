@@ -4,6 +4,6 @@ use Rattle.office.proofs.pass.raise_number.Goals as goal
 pub returns : goal.returns
 returns g c =
     record {
-      ok = same_ok c.args.answer c.pass-up.result c.pass-up.ensures;
-      on = λ s k d. on_number g.O.Kind.Share.kind s (g.O.Office.meaning c.args.below.now) k c.args.answer c.pass-up.result c.pass-up.ensures d;
+      ok = same_ok c.args.answer c.pass_up.result c.pass_up.ensures;
+      on = λ s k d. on_number g.O.Kind.Share.kind s (g.O.Office.meaning c.args.below.now) k c.args.answer c.pass_up.result c.pass_up.ensures d;
     }

@@ -16,7 +16,7 @@ loop-i-preserved g c =
     let i = c.loop-i.i in
     let h = c.args.holder in
     let lt : i < length roll = omega (arith, c.loop-i.invariant.0) in
-    elim c.match-lease-at.branch [
+    elim c.match-lease_at.branch [
       | in-Ok+then-lease-holder w ↦
           let x = w.in-Ok.lease in
           let m = held_here roll i h x (lease_is K s s i x w.in-Ok.ensures) w.if-lease-holder.true in

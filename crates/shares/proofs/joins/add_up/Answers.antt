@@ -19,15 +19,15 @@ loop-s-init g c =
     let K = g.S.Share.kind in
     ap (λ e. plus? K (Some e) (together K c.args.shares.now)) c.empty-sum.ensures ∙ nothing_plus K g.met.S.Share.laws (together K c.args.shares.now)
 
-pub returns-in-err-sum : goal.returns-in-err-sum
-returns-in-err-sum g c =
+pub returns-in_err-sum : goal.returns-in_err-sum
+returns-in_err-sum g c =
     let K = g.S.Share.kind in
     let L = g.met.S.Share.laws in
     let xs = c.args.shares.now in
-    let undefined : K.join c.loop-s.sum c.s-item.result ≡ None = sym c.join.ensures ∙ c.in-err-sum.was in
+    let undefined : K.join c.loop-s.sum c.s-item.result ≡ None = sym c.join.ensures ∙ c.in_err-sum.was in
     let rest = together K (drop (c.loop-s.s-index + 1) xs) in
-    let is : c.from-residual.result ≡ together K xs =
-    c.from-residual.ensures ∙ sym (plus_none K rest) ∙ sym (ap (λ o. plus? K o rest) undefined)
+    let is : c.from_residual.result ≡ together K xs =
+    c.from_residual.ensures ∙ sym (plus_none K rest) ∙ sym (ap (λ o. plus? K o rest) undefined)
     ∙ sym (step K L xs c.loop-s.s-index c.s-item.result c.loop-s.sum c.loop-s-test.true c.s-item.is) ∙ c.loop-s.invariant in
     record { is = is; any_way = λ h p. any_way K L xs h p ∙ sym is; every_way = every_way K L }
 
@@ -36,7 +36,7 @@ loop-s-preserved g c =
     let K = g.S.Share.kind in
     let L = g.met.S.Share.laws in
     let xs = c.args.shares.now in
-    let sum : K.join c.loop-s.sum c.s-item.result ≡ Some c.in-ok-sum.sum = sym c.join.ensures ∙ c.in-ok-sum.was in
+    let sum : K.join c.loop-s.sum c.s-item.result ≡ Some c.in_ok-sum.sum = sym c.join.ensures ∙ c.in_ok-sum.was in
     ap (λ o. plus? K o (together K (drop (c.loop-s.s-index + 1) xs))) (sym sum)
     ∙ sym (step K L xs c.loop-s.s-index c.s-item.result c.loop-s.sum c.loop-s-test.true c.s-item.is) ∙ c.loop-s.invariant
 

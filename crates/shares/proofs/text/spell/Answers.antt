@@ -12,4 +12,4 @@ returns g c =
     let text = g.S.Printed.text c.args.share in
     let n = c.write-length.result - 0 in
     let e : take n c.write-length.new.space ≡ text = front text _ c.write-length.new.space n (omega (arith, c.write-length.ensures.length)) c.write-length.ensures.bytes in
-    subst (λ bs. IfOk c.from-utf8-lossy.result (λ t. IsUtf8 bs → string_bytes t ≡ bs)) e c.from-utf8-lossy.ensures.ok
+    subst (λ bs. IfOk c.from_utf8_lossy.result (λ t. IsUtf8 bs → string_bytes t ≡ bs)) e c.from_utf8_lossy.ensures.ok

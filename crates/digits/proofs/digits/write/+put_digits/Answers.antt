@@ -19,18 +19,18 @@ returns-then-n-lt10 t c =
 pub bounds-bytes-last : goal.bounds-bytes-last
 bounds-bytes-last t c = omega (arith, few c.args.n (omega arith))
 
-pub overflow-add-result : goal.overflow-add-result
-overflow-add-result t c = omega (arith, few c.args.n (omega arith))
+pub overflow_add-result : goal.overflow_add-result
+overflow_add-result t c = omega (arith, few c.args.n (omega arith))
 
 pub returns : goal.returns
 returns t c =
     let small : c.args.n < 2 ^ 64 = omega arith in
     let step = decimal_step c.args.n c.if-n-lt10.false small in
-    let front = c.put-digits-last.ensures.front in
+    let front = c.put_digits-last.ensures.front in
     let digit = 48 + c.args.n % 10 in
     record {
       count = omega (arith, ap length step, length-append (decimal (c.args.n / 10)) (digit ∷ []));
       most = omega (arith, few c.args.n (omega arith));
-      front = take_more_set c.put-digits-last.new.bytes c.put-digits-last.result digit (omega (arith, few c.args.n (omega arith)))
+      front = take_more_set c.put_digits-last.new.bytes c.put_digits-last.result digit (omega (arith, few c.args.n (omega arith)))
           ∙ ap (λ ds. ds ++ (digit ∷ [])) front ∙ sym step;
     }

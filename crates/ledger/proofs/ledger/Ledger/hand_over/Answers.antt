@@ -5,8 +5,8 @@ use Rattle.ledger.specs.Tables.{roll_of}
 use Rattle.ledger.proofs.Ledgers.{tidy}
 use Rattle.ledger.proofs.ledger.Ledger.hand_over.Goals as goal
 
-pub set-holder-requires : goal.set-holder-requires
-set-holder-requires g c = tidy c.args.self.now
+pub set_holder-requires : goal.set_holder-requires
+set_holder-requires g c = tidy c.args.self.now
 
 pub invariant-of-self : goal.invariant-of-self
 invariant-of-self g c =
@@ -14,13 +14,13 @@ invariant-of-self g c =
     let roll = roll_of l.table in
     let n = c.args.number in
     let f = with_holder c.args.holder in (
-      c.set-holder.ensures.fits,
+      c.set_holder.ensures.fits,
       (
         l.numbers,
         (
           l.days,
           (
-            orderly_so roll (change n f roll) (roll_of c.set-holder.new.self) l.issued l.issued l.orderly c.set-holder.ensures.holds
+            orderly_so roll (change n f roll) (roll_of c.set_holder.new.self) l.issued l.issued l.orderly c.set_holder.ensures.holds
                 (orderly_change n f (record { number = λ x. refl; lender = λ x. refl; due = λ x. refl; ranged = λ x r. (r.0, c.requires, r.2) }) roll l.issued),
             tt,
           ),

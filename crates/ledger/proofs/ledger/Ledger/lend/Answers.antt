@@ -9,15 +9,15 @@ use Rattle.ledger.specs.Tables.{roll_of, room}
 use Rattle.ledger.proofs.Ledgers.{tidy, not_full, still_room, same_core}
 use Rattle.ledger.proofs.ledger.Ledger.lend.Goals as goal
 
-pub set-share-requires : goal.set-share-requires
-set-share-requires g c = tidy c.args.self.now
+pub set_share-requires : goal.set_share-requires
+set_share-requires g c = tidy c.args.self.now
 
 pub push-requires : goal.push-requires
 push-requires g c =
     let l = c.args.self.now in
     let roll = roll_of l.table in
     let f = with_share c.args.kept in
-    still_room c.set-share.new.self l.table (change c.args.lender f roll) c.set-share.ensures (length-map roll (λ x. cond (eqb x.number c.args.lender) (f x) x)) l.fits (not_full l.table l.fits c.requires.row)
+    still_room c.set_share.new.self l.table (change c.args.lender f roll) c.set_share.ensures (length-map roll (λ x. cond (eqb x.number c.args.lender) (f x) x)) l.fits (not_full l.table l.fits c.requires.row)
 
 -- the roll after the two writes
 module _ {S : Type 0} (roll one two : List (Lease S)) (n h d i : ℕ) (x : Lease S) (v w : S) where
@@ -53,7 +53,7 @@ invariant-of-self g c =
           l.days,
           (
             orderly_so roll (change n (with_share v) roll ++ (record { number = i + 1; resource = x.resource; holder = h; lender = n; due = d; share = w } ∷ [])) (roll_of c.push.new.self) i (i + 1) l.orderly
-                (both roll (roll_of c.set-share.new.self) (roll_of c.push.new.self) n h d i x v w c.set-share.ensures.holds c.push.ensures.holds)
+                (both roll (roll_of c.set_share.new.self) (roll_of c.push.new.self) n h d i x v w c.set_share.ensures.holds c.push.ensures.holds)
                 (orderly_lent n h d x v w roll i c.requires.live c.requires.holder (omega arith) by),
             tt,
           ),
@@ -65,7 +65,7 @@ pub returns : goal.returns
 returns g c =
     let l = c.args.self.now in
     let roll = roll_of l.table in
-    let one = c.set-share.new.self in
+    let one = c.set_share.new.self in
     let two = c.push.new.self in
     let x = c.args.lease in
     let n = c.args.lender in
@@ -78,8 +78,8 @@ returns g c =
       number = refl;
       stands = record {
         core = same_core (roll_of two) (change x.number (with_share v) roll ++ (record { number = i + 1; resource = x.resource; holder = h; lender = x.number; due = d; share = w } ∷ [])) (i + 1) l.today (room two) (room l.table) 0
-            (both roll (roll_of one) (roll_of two) n h d i x v w c.set-share.ensures.holds c.push.ensures.holds ∙ named roll (roll_of one) (roll_of two) n h d i x v w (find_in roll n x c.requires.live).1)
-            (c.push.ensures.space ∙ c.set-share.ensures.space);
-        rest = c.push.ensures.rest ∙ c.set-share.ensures.rest;
+            (both roll (roll_of one) (roll_of two) n h d i x v w c.set_share.ensures.holds c.push.ensures.holds ∙ named roll (roll_of one) (roll_of two) n h d i x v w (find_in roll n x c.requires.live).1)
+            (c.push.ensures.space ∙ c.set_share.ensures.space);
+        rest = c.push.ensures.rest ∙ c.set_share.ensures.rest;
       };
     }

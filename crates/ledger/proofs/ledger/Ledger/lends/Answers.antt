@@ -16,7 +16,7 @@ returns g c =
     let n = c.args.number in
     let k = c.place-k.result in
     let e = c.roll-roll.ensures in
-    c.any-row.ensures
+    c.any_row.ensures
     ∙ ap (λ (xs : List (Lease g.row.S.Denot)). lends xs n) (take_rest c.roll-roll.result.now k)
     ∙ ap (λ (xs : List (Lease g.row.S.Denot)). lends (drop k xs) n) e
     ∙ lends_after n k (roll_of l.table) l.issued l.orderly (subst (λ (xs : List (Lease g.row.S.Denot)). Placed n xs k) e c.place-k.ensures)

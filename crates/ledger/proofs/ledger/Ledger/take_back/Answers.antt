@@ -10,8 +10,8 @@ use Rattle.ledger.proofs.ledger.Ledger.take_back.Goals as goal
 pub close-requires : goal.close-requires
 close-requires g c = tidy c.args.self.now
 
-pub add-share-requires : goal.add-share-requires
-add-share-requires g c =
+pub add_share-requires : goal.add_share-requires
+add_share-requires g c =
     let l = c.args.self.now in
     let roll = roll_of l.table in
     let n = c.args.number in
@@ -24,14 +24,14 @@ invariant-of-self g c =
     let n = c.args.number in
     let x = c.args.lease in
     let f : Lease g.row.S.Denot → Lease g.row.S.Denot = λ p. with_share (plus g.S.Share.kind p.share x.share) p in (
-      c.add-share.ensures.fits,
+      c.add_share.ensures.fits,
       (
         l.numbers,
         (
           l.days,
           (
-            orderly_so roll (change x.lender f (close n roll)) (roll_of c.add-share.new.self) l.issued l.issued l.orderly
-                (c.add-share.ensures.holds ∙ ap (change x.lender f) c.close.ensures.holds)
+            orderly_so roll (change x.lender f (close n roll)) (roll_of c.add_share.new.self) l.issued l.issued l.orderly
+                (c.add_share.ensures.holds ∙ ap (change x.lender f) c.close.ensures.holds)
                 (λ o. orderly_change x.lender f (record { number = λ y. refl; lender = λ y. refl; due = λ y. refl; ranged = λ y r. r }) (close n roll) l.issued (orderly_close n roll l.issued o)),
             tt,
           ),
@@ -46,10 +46,10 @@ returns g c =
     let n = c.args.number in
     let x = c.args.lease in
     let f : Lease g.row.S.Denot → Lease g.row.S.Denot = λ p. with_share (plus g.S.Share.kind p.share x.share) p in
-    let two = c.add-share.new.self in
+    let two = c.add_share.new.self in
     record {
       core = same_core (roll_of two) (change x.lender f (close x.number roll)) l.issued l.today (room two) (room l.table) 0
-          (c.add-share.ensures.holds ∙ ap (change x.lender f) (c.close.ensures.holds ∙ ap (λ m. close m roll) (sym (find_in roll n x c.requires).1)))
-          (c.add-share.ensures.space ∙ c.close.ensures.space);
-      rest = c.add-share.ensures.rest ∙ c.close.ensures.rest;
+          (c.add_share.ensures.holds ∙ ap (change x.lender f) (c.close.ensures.holds ∙ ap (λ m. close m roll) (sym (find_in roll n x c.requires).1)))
+          (c.add_share.ensures.space ∙ c.close.ensures.space);
+      rest = c.add_share.ensures.rest ∙ c.close.ensures.rest;
     }

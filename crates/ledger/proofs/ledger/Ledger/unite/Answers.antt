@@ -10,8 +10,8 @@ use Rattle.ledger.proofs.ledger.Ledger.unite.Goals as goal
 pub close-requires : goal.close-requires
 close-requires g c = tidy c.args.self.now
 
-pub set-share-requires : goal.set-share-requires
-set-share-requires g c =
+pub set_share-requires : goal.set_share-requires
+set_share-requires g c =
     let l = c.args.self.now in
     let roll = roll_of l.table in
     let n = c.args.closed in
@@ -34,7 +34,7 @@ invariant-of-self g c =
     let b = c.args.closed in
     let x = c.args.a in
     let y = c.args.b in
-    let v = c.join-or-keep-both.result in
+    let v = c.join_or_keep-both.result in
     let fx = find_in roll a x c.requires.a in
     let fy = find_in roll b y c.requires.b in
     let xa = fx.1 in
@@ -47,7 +47,7 @@ invariant-of-self g c =
           l.days,
           (
             orderly_so roll (relend x.number y.number (change x.number (with_share v) (close y.number roll))) (roll_of c.relend.new.self) l.issued l.issued l.orderly
-                (all roll (roll_of c.close.new.self) (roll_of c.set-share.new.self) (roll_of c.relend.new.self) a b x y v v xa yb refl c.close.ensures.holds c.set-share.ensures.holds c.relend.ensures.holds)
+                (all roll (roll_of c.close.new.self) (roll_of c.set_share.new.self) (roll_of c.relend.new.self) a b x y v v xa yb refl c.close.ensures.holds c.set_share.ensures.holds c.relend.ensures.holds)
                 (λ o. orderly_merge x y roll l.issued less (alike_due x y c.requires.alike) v fx.0 fy.0 o),
             tt,
           ),
@@ -67,7 +67,7 @@ returns g c =
     let three = c.relend.new.self in
     record {
       core = same_core (roll_of three) (relend x.number y.number (change x.number (with_share (plus K x.share y.share)) (close y.number roll))) l.issued l.today (room three) (room l.table) 0
-          (all roll (roll_of c.close.new.self) (roll_of c.set-share.new.self) (roll_of three) a b x y c.join-or-keep-both.result (plus K x.share y.share) (find_in roll a x c.requires.a).1 (find_in roll b y c.requires.b).1 c.join-or-keep-both.ensures c.close.ensures.holds c.set-share.ensures.holds c.relend.ensures.holds)
-          (c.relend.ensures.space ∙ c.set-share.ensures.space ∙ c.close.ensures.space);
-      rest = c.relend.ensures.rest ∙ c.set-share.ensures.rest ∙ c.close.ensures.rest;
+          (all roll (roll_of c.close.new.self) (roll_of c.set_share.new.self) (roll_of three) a b x y c.join_or_keep-both.result (plus K x.share y.share) (find_in roll a x c.requires.a).1 (find_in roll b y c.requires.b).1 c.join_or_keep-both.ensures c.close.ensures.holds c.set_share.ensures.holds c.relend.ensures.holds)
+          (c.relend.ensures.space ∙ c.set_share.ensures.space ∙ c.close.ensures.space);
+      rest = c.relend.ensures.rest ∙ c.set_share.ensures.rest ∙ c.close.ensures.rest;
     }

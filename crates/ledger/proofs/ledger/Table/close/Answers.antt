@@ -19,10 +19,10 @@ returns-in-Some g c =
     let fits = c.requires.fits in
     let lt : k < n = omega (arith, simp length-take at f.within) in
     let le : n ≤ length xs = omega arith in
-    let len : length c.close-gap.new.rows ≡ length xs = ap length c.close-gap.ensures ∙ gap_length xs n k lt le in
+    let len : length c.close_gap.new.rows ≡ length xs = ap length c.close_gap.ensures ∙ gap_length xs n k lt le in
     record {
       space = ap (min 1024) len;
       fits = omega arith;
-      holds = ap (take (n - 1)) c.close-gap.ensures ∙ gap_roll xs n k lt le ∙ sym f.closes;
-      rest = ap (drop 1024) c.close-gap.ensures ∙ gap_rest xs n k lt le 1024 (omega arith);
+      holds = ap (take (n - 1)) c.close_gap.ensures ∙ gap_roll xs n k lt le ∙ sym f.closes;
+      rest = ap (drop 1024) c.close_gap.ensures ∙ gap_rest xs n k lt le 1024 (omega arith);
     }

@@ -11,10 +11,10 @@ returns g c =
     let n = t.count in
     let f : Lease g.row.S.Denot → Lease g.row.S.Denot = λ l. cond (eqb l.lender c.args.b) (with_lender c.args.a l) l in
     let h : n ≤ length xs = omega (arith, c.requires) in
-    let len : length c.relend-rows.new.rows ≡ length xs = ap length c.relend-rows.ensures ∙ over_length xs n f h in
+    let len : length c.relend_rows.new.rows ≡ length xs = ap length c.relend_rows.ensures ∙ over_length xs n f h in
     record {
       space = ap (min 1024) len;
       fits = omega (arith, len, c.requires);
-      holds = ap (take n) c.relend-rows.ensures ∙ over_roll xs n f h;
-      rest = ap (drop 1024) c.relend-rows.ensures ∙ over_rest xs n f h 1024 (omega (arith, c.requires));
+      holds = ap (take n) c.relend_rows.ensures ∙ over_roll xs n f h;
+      rest = ap (drop 1024) c.relend_rows.ensures ∙ over_rest xs n f h 1024 (omega (arith, c.requires));
     }

@@ -20,20 +20,20 @@ pub lower-requires : goal.lower-requires
 unfolding level
 lower-requires c = record { sized = refl; fits = omega arith }
 
-pub returns-in-err-kept : goal.returns-in-err-kept
-returns-in-err-kept c =
-    c.from-residual.ensures ∙ cut_cell c.args.cells (refused_is 6 (tree_of 6 c.args.cells) (sym (c.in-err-kept.ensures ∙ of_64 c.args.cells)))
+pub returns-in_err-kept : goal.returns-in_err-kept
+returns-in_err-kept c =
+    c.from_residual.ensures ∙ cut_cell c.args.cells (refused_is 6 (tree_of 6 c.args.cells) (sym (c.in_err-kept.ensures ∙ of_64 c.args.cells)))
 
-pub overflow-sub-result : goal.overflow-sub-result
-overflow-sub-result c =
+pub overflow_sub-result : goal.overflow_sub-result
+overflow_sub-result c =
     let n = c.args.cells in
-    let k = kept_is 6 (tree_of 6 n) c.in-ok-kept.kept (sym (c.in-ok-kept.ensures ∙ of_64 n)) in
+    let k = kept_is 6 (tree_of 6 n) c.in_ok-kept.kept (sym (c.in_ok-kept.ensures ∙ of_64 n)) in
     omega (arith, k.1, halves_add 6 (tree_of 6 n) k.0, cells_tree 6 n (omega arith))
 
 pub returns : goal.returns
 returns c =
     let n = c.args.cells in
-    let k = kept_is 6 (tree_of 6 n) c.in-ok-kept.kept (sym (c.in-ok-kept.ensures ∙ of_64 n)) in
+    let k = kept_is 6 (tree_of 6 n) c.in_ok-kept.kept (sym (c.in_ok-kept.ensures ∙ of_64 n)) in
     cut_made n _ _ (record {
       some = c.if-cells-eq0.false;
       no_cell = k.0;

@@ -16,9 +16,9 @@ from_start : (xs bs : List ℕ) → placed xs 0 bs ≡ in_front bs xs
 unfolding placed
 from_start xs bs = simp zero-add
 
-pub write-block-requires : goal.write-block-requires
+pub write_block-requires : goal.write_block-requires
 unfolding level
-write-block-requires c =
+write_block-requires c =
     record {
       block = record { sized = refl; fits = omega arith };
       room = omega (arith, ap length (of_64 c.args.cells), text_short 6 c.args.cells);
@@ -28,6 +28,6 @@ pub returns : goal.returns
 returns c =
     let w = of_64 c.args.cells in
     record {
-      length = omega (arith, c.write-block.ensures.end, ap length w);
-      bytes = c.write-block.ensures.bytes ∙ ap (placed c.args.space.now 0) w ∙ from_start c.args.space.now (text (tree_of 6 c.args.cells));
+      length = omega (arith, c.write_block.ensures.end, ap length w);
+      bytes = c.write_block.ensures.bytes ∙ ap (placed c.args.space.now 0) w ∙ from_start c.args.space.now (text (tree_of 6 c.args.cells));
     }
