@@ -4,7 +4,7 @@ use Rattle.shares.specs.Joins.{together}
 use Rattle.loans.specs.Loans.{loans_of, left_of, lent_shares}
 use Rattle.loans.proofs.Shared.{turn, ended, sum_is, joins_are}
 use Rattle.loans.proofs.round.lend.Goals as goal
-use Rattle.loans.proofs.round.lend.Goals.{else-loop-served-test, then-loop-served-test+in-default}
+use Rattle.loans.proofs.round.lend.Goals.{else-loop-served-test, then-loop-served-test+in_default}
 
 pub loop-served-preserved : goal.loop-served-preserved
 loop-served-preserved g c =
@@ -23,7 +23,7 @@ returns g c =
     let out : (loans ≡ loans_of K n s) × (left ≡ left_of K n s) =
     elim c.loop-served-test.branch [
       | else-loop-served-test w ↦ ended K n c.loop-served.served s left loans (inl w.loop-served-test.false) c.loop-served.invariant
-      | then-loop-served-test+in-default w ↦ ended K n c.loop-served.served s left loans (inr (sym w.halve.ensures ∙ w.in-default.is)) c.loop-served.invariant
+      | then-loop-served-test+in_default w ↦ ended K n c.loop-served.served s left loans (inr (sym w.halve.ensures ∙ w.in_default.is)) c.loop-served.invariant
     ] in
     let sum : together K (left ∷ lent_shares loans) ≡ Some s = ap₂ (λ l xs. together K (l ∷ lent_shares xs)) out.1 out.0 ∙ sum_is K L n s in
     record { lent = record { loans = out.0; left = out.1 }; joins = joins_are K L (left ∷ lent_shares loans) s sum; sum = sum }

@@ -4,8 +4,8 @@ use Rattle.lending.proofs.Order.{orderly_so, orderly_first}
 use Rattle.ledger.specs.Tables.{roll_of}
 use Rattle.ledger.proofs.ledger.Ledger.first.Goals as goal
 
-pub invariant-of-self : goal.invariant-of-self
-invariant-of-self g c =
+pub invariant_of-self : goal.invariant_of-self
+invariant_of-self g c =
     let l = c.args.self.now in
     let roll = roll_of l.table in
     let x : Lease g.row.S.Denot = record { number = l.issued + 1; resource = c.args.resource; holder = c.args.holder; lender = 0; due = 10000; share = c.whole-share.result } in

@@ -8,8 +8,8 @@ use Rattle.ledger.proofs.ledger.Ledger.hand_over.Goals as goal
 pub set_holder-requires : goal.set_holder-requires
 set_holder-requires g c = tidy c.args.self.now
 
-pub invariant-of-self : goal.invariant-of-self
-invariant-of-self g c =
+pub invariant_of-self : goal.invariant_of-self
+invariant_of-self g c =
     let l = c.args.self.now in
     let roll = roll_of l.table in
     let n = c.args.number in

@@ -32,8 +32,8 @@ module _ {S : Type 0} (roll one two : List (Lease S)) (n h d i : ℕ) (x : Lease
   unfolding new
   named e = ap (λ m. change m (with_share v) roll ++ (new m ∷ [])) (sym e)
 
-pub invariant-of-self : goal.invariant-of-self
-invariant-of-self g c =
+pub invariant_of-self : goal.invariant_of-self
+invariant_of-self g c =
     let l = c.args.self.now in
     let roll = roll_of l.table in
     let x = c.args.lease in

@@ -17,8 +17,8 @@ add_share-requires g c =
     let n = c.args.number in
     tidy_after c.close.new.self l.table (close n roll) c.close.ensures (rising_keep (λ x. not (eqb x.number n)) 0 roll (tidy l).rises)
 
-pub invariant-of-self : goal.invariant-of-self
-invariant-of-self g c =
+pub invariant_of-self : goal.invariant_of-self
+invariant_of-self g c =
     let l = c.args.self.now in
     let roll = roll_of l.table in
     let n = c.args.number in

@@ -26,8 +26,8 @@ module _ {S : Type 0} (roll one two three : List (Lease S)) (a b : ℕ) (x y : L
       ∙ ap (λ m. relend x.number m (change x.number (with_share v) (close m roll))) (sym f)
       ∙ ap (λ u. relend x.number y.number (change x.number (with_share u) (close y.number roll))) h
 
-pub invariant-of-self : goal.invariant-of-self
-invariant-of-self g c =
+pub invariant_of-self : goal.invariant_of-self
+invariant_of-self g c =
     let l = c.args.self.now in
     let roll = roll_of l.table in
     let a = c.args.kept in

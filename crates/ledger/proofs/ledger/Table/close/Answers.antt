@@ -4,10 +4,10 @@ use Rattle.ledger.proofs.Places.{stays_closed}
 use Rattle.ledger.proofs.Gaps.{gap_roll, gap_length, gap_rest}
 use Rattle.ledger.proofs.ledger.Table.close.Goals as goal
 
-pub returns-in-default : goal.returns-in-default
-returns-in-default g c =
+pub returns-in_default : goal.returns-in_default
+returns-in_default g c =
     let t = c.args.self.now in
-    record { space = refl; fits = c.requires.fits; holds = stays_closed c.args.number (roll_of t) c.in-default.ensures; rest = refl }
+    record { space = refl; fits = c.requires.fits; holds = stays_closed c.args.number (roll_of t) c.in_default.ensures; rest = refl }
 
 pub returns-in-Some : goal.returns-in-Some
 returns-in-Some g c =
