@@ -13,17 +13,11 @@ invariant_of-self g c =
     let l = c.args.self.now in
     let roll = roll_of l.table in
     let n = c.args.number in
-    let f = with_holder c.args.holder in (
-      c.set_holder.ensures.fits,
-      (
-        l.numbers,
-        (
-          l.days,
-          (
-            orderly_so roll (change n f roll) (roll_of c.set_holder.new.self) l.issued l.issued l.orderly c.set_holder.ensures.holds
-                (orderly_change n f (record { number = λ x. refl; lender = λ x. refl; due = λ x. refl; ranged = λ x r. (r.0, c.requires, r.2) }) roll l.issued),
-            tt,
-          ),
-        ),
-      ),
-    )
+    let f = with_holder c.args.holder in
+    record {
+      fits = c.set_holder.ensures.fits;
+      numbers = l.numbers;
+      days = l.days;
+      orderly = orderly_so roll (change n f roll) (roll_of c.set_holder.new.self) l.issued l.issued l.orderly c.set_holder.ensures.holds
+            (orderly_change n f (record { number = λ x. refl; lender = λ x. refl; due = λ x. refl; ranged = λ x r. (r.0, c.requires, r.2) }) roll l.issued);
+    }

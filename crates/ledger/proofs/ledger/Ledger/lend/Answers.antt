@@ -45,21 +45,15 @@ invariant_of-self g c =
     let w = c.args.lent in
     let parts = (or_parts (leb d l.today) (ltb x.due d || ltb 9999 d) c.requires.due).1 in
     let by : d ≤ x.due = ltb-false x.due d (or_parts (ltb x.due d) (ltb 9999 d) parts).0 in
-    let last : d ≤ 9999 = ltb-false 9999 d (or_parts (ltb x.due d) (ltb 9999 d) parts).1 in (
-      c.push.ensures.fits,
-      (
-        omega (arith, c.requires.number),
-        (
-          l.days,
-          (
-            orderly_so roll (change n (with_share v) roll ++ (record { number = i + 1; resource = x.resource; holder = h; lender = n; due = d; share = w } ∷ [])) (roll_of c.push.new.self) i (i + 1) l.orderly
-                (both roll (roll_of c.set_share.new.self) (roll_of c.push.new.self) n h d i x v w c.set_share.ensures.holds c.push.ensures.holds)
-                (orderly_lent n h d x v w roll i c.requires.live c.requires.holder (omega arith) by),
-            tt,
-          ),
-        ),
-      ),
-    )
+    let last : d ≤ 9999 = ltb-false 9999 d (or_parts (ltb x.due d) (ltb 9999 d) parts).1 in
+    record {
+      fits = c.push.ensures.fits;
+      numbers = omega (arith, c.requires.number);
+      days = l.days;
+      orderly = orderly_so roll (change n (with_share v) roll ++ (record { number = i + 1; resource = x.resource; holder = h; lender = n; due = d; share = w } ∷ [])) (roll_of c.push.new.self) i (i + 1) l.orderly
+            (both roll (roll_of c.set_share.new.self) (roll_of c.push.new.self) n h d i x v w c.set_share.ensures.holds c.push.ensures.holds)
+            (orderly_lent n h d x v w roll i c.requires.live c.requires.holder (omega arith) by);
+    }
 
 pub returns : goal.returns
 returns g c =

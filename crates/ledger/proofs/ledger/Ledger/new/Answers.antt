@@ -3,4 +3,4 @@ use Rattle.lending.proofs.Order.{orderly_none}
 use Rattle.ledger.proofs.ledger.Ledger.new.Goals as goal
 
 pub invariant_of-result : goal.invariant_of-result
-invariant_of-result g c = (omega arith, (omega arith, (omega arith, (∣ orderly_none ∣₁, tt))))
+invariant_of-result g c = record { fits = omega arith; numbers = omega arith; days = omega arith; orderly = ∣ orderly_none ∣₁ }

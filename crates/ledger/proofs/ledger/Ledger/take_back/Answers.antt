@@ -23,21 +23,15 @@ invariant_of-self g c =
     let roll = roll_of l.table in
     let n = c.args.number in
     let x = c.args.lease in
-    let f : Lease g.row.S.Denot → Lease g.row.S.Denot = λ p. with_share (plus g.S.Share.kind p.share x.share) p in (
-      c.add_share.ensures.fits,
-      (
-        l.numbers,
-        (
-          l.days,
-          (
-            orderly_so roll (change x.lender f (close n roll)) (roll_of c.add_share.new.self) l.issued l.issued l.orderly
-                (c.add_share.ensures.holds ∙ ap (change x.lender f) c.close.ensures.holds)
-                (λ o. orderly_change x.lender f (record { number = λ y. refl; lender = λ y. refl; due = λ y. refl; ranged = λ y r. r }) (close n roll) l.issued (orderly_close n roll l.issued o)),
-            tt,
-          ),
-        ),
-      ),
-    )
+    let f : Lease g.row.S.Denot → Lease g.row.S.Denot = λ p. with_share (plus g.S.Share.kind p.share x.share) p in
+    record {
+      fits = c.add_share.ensures.fits;
+      numbers = l.numbers;
+      days = l.days;
+      orderly = orderly_so roll (change x.lender f (close n roll)) (roll_of c.add_share.new.self) l.issued l.issued l.orderly
+            (c.add_share.ensures.holds ∙ ap (change x.lender f) c.close.ensures.holds)
+            (λ o. orderly_change x.lender f (record { number = λ y. refl; lender = λ y. refl; due = λ y. refl; ranged = λ y r. r }) (close n roll) l.issued (orderly_close n roll l.issued o));
+    }
 
 pub returns : goal.returns
 returns g c =
