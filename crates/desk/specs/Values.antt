@@ -1,6 +1,5 @@
 -- What calls and answers say that are given as values.
 use Rattle.std.specs.Prelude.{ℕ, Bool, true, false, Ok, Err, Result}
-use Rattle.lending.specs.declared.lease.Lease.{Lease}
 use Rattle.lending.specs.declared.refusal.Refusal.{Refusal}
 use Rattle.lending.specs.Outcome as office
 use Rattle.lending.specs.Outcome.Call.{open_resource, delegate, yield, merge, assign, new_day, ask_count, ask_issued, ask_today, ask_lease_at, ask_lease}

@@ -1,5 +1,5 @@
 -- Every call keeps the invariant, and closes as many leases as it answers.
-use Rattle.std.proofs.Common.{◌≡◌, ℕ, ◌+◌, ◌<◌, ◌≤◌, Bool, true, false, cond, not, ◌||◌, eqb, ltb, leb, ◌⊎◌, List, [], ◌∷◌, ◌++◌, length, Some, None, Option, sym, refl, ap, ◌∙◌, subst, ap₂, inl, inr, ⊎_elim, arith, length-append}
+use Rattle.std.proofs.Common.{◌≡◌, ℕ, ◌+◌, ◌<◌, ◌≤◌, Bool, true, false, cond, not, ◌||◌, eqb, ltb, leb, List, [], ◌∷◌, ◌++◌, length, Some, None, Option, sym, refl, ap, ◌∙◌, subst, ap₂, inl, inr, ⊎_elim, arith, length-append}
 use mathlib.Core.List.{Memᴰ}
 use mathlib.Core.Option as maybe
 use lib.ListN.{length-map, get_elem?}
@@ -15,7 +15,7 @@ use Rattle.lending.specs.Perform.{perform}
 use Rattle.lending.specs.Limits.{within_range}
 use Rattle.lending.specs.Office.Request.{opening, delegating, assigning}
 use Rattle.lending.specs.Outcome.Call.{open_resource, delegate, yield, merge, assign, new_day, ask_count, ask_issued, ask_today, ask_lease_at, ask_lease, recall, day, standing, hand_in}
-use Rattle.lending.specs.Outcome.Answer.{done, number, lease, share, refused}
+use Rattle.lending.specs.Outcome.Answer.{done, number, lease, refused}
 use Rattle.lending.specs.Outcome.Outcome.{refuses, tells, grants}
 use Rattle.lending.specs.History.{tally, none, one_if_done, its_number, closing, lent_by, half_lent}
 use Rattle.shares.proofs.Sums.{plus?}

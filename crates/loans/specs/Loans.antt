@@ -1,5 +1,5 @@
 -- Loans from one share to borrowers in turn.
-use Rattle.std.specs.Prelude.{◌≡◌, ℕ, zero, suc, List, [], ◌∷◌, Some, None, vec_items, Option}
+use Rattle.std.specs.Prelude.{◌≡◌, ℕ, zero, suc, List, [], ◌∷◌, Some, None, vec_items}
 use Rattle.shares.specs.Kind.{Kind}
 use Rattle.loans.specs.declared.loan.Loan.{Loan}
 use Rattle.loans.specs.declared.loan.SharedOut.{SharedOut}

@@ -1,5 +1,5 @@
 -- Shares joined in every order and grouping.
-use Rattle.std.specs.Prelude.{◌≡◌, List, [], ◌∷◌, ◌++◌, Some, None, Option}
+use Rattle.std.specs.Prelude.{◌≡◌, List, [], ◌∷◌, ◌++◌, Some, Option}
 use mathlib.Core.List.{Perm}
 use Rattle.shares.specs.Kind.{Kind, then}
 

@@ -1,5 +1,5 @@
 -- What a block keeps where its filled leaves are cut in two, and its text: those of its two halves.
-use Rattle.std.proofs.Common.{◌≡◌, ℕ, zero, suc, ◌+◌, ◌-◌, ◌*◌, ◌/◌, ◌%◌, ◌^◌, ◌<◌, Bool, true, false, cond, eqb, ◌⊎◌, [], ◌∷◌, ◌++◌, Some, None, Option, sym, refl, ap, ◌∙◌, subst, ap₂, inl, inr, mod-lt, zero-mul, arith, pow_pos, shl_exact, shr_lt}
+use Rattle.std.proofs.Common.{◌≡◌, ℕ, zero, suc, ◌+◌, ◌-◌, ◌*◌, ◌/◌, ◌%◌, ◌^◌, ◌<◌, Bool, true, false, cond, eqb, ◌⊎◌, [], ◌∷◌, ◌++◌, Some, None, sym, refl, ap, ◌∙◌, subst, ap₂, inl, inr, mod-lt, zero-mul, arith, pow_pos, shl_exact, shr_lt}
 use lib.Bits.{bit_and, bit_or, or_shifted_r, and_mask}
 use Rattle.std.proofs.lemmas.Bool.{cases_eq, cond-true, cond-false, eq-eqb, ne_eqb, or_from, or_left, or_right}
 use Rattle.trees.specs.Tree.{Tree, leaf, node, kept, has_filled_cell, text}
@@ -7,7 +7,7 @@ use Rattle.trees.specs.Cells.{span, tree_of, cells_of}
 use Rattle.trees.specs.Block.{Block, Mixed, level, kept_cells, kept_of, text_of}
 use Rattle.trees.specs.TreesOfCells.{tree_empty, tree_full, tree_mixed}
 use Rattle.trees.specs.Halving.{cells_lt}
-use Rattle.trees.proofs.Sizes.{Halving, halving, size_range, two_halves}
+use Rattle.trees.proofs.Sizes.{halving, size_range, two_halves}
 
 -- a block is mixed where the code's two tests have failed
 pub mixed : (size cells ones : ℕ) → Block size cells → (cells ≡ 0 → ⊥) → (cells ≡ ones → ⊥) → ones ≡ 2 ^ size - 1 → Mixed size cells

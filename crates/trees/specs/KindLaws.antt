@@ -9,8 +9,8 @@ use Rattle.std.proofs.Math.Dec.{eqb_refl}
 use Rattle.std.proofs.lemmas.Bool.{eq-eqb, ne_eqb, eqb-true, eqb-false, cond-true, cond-false, cases_eq, or_cases, or_parts, or_from, or_left, or_right}
 use Rattle.shares.specs.Kind.{Laws, then}
 use Rattle.trees.specs.declared.trees.Trees.{Trees}
-use Rattle.trees.specs.Tree.{Tree, kept, lent, has_filled_cell}
-use Rattle.trees.specs.Cells.{trees_of_cells, tree_of, cells_of, tree, share, union, cut, halves, trees_kind}
+use Rattle.trees.specs.Tree.{kept, lent, has_filled_cell}
+use Rattle.trees.specs.Cells.{trees_of_cells, tree_of, cells_of, tree, union, cut, halves, trees_kind}
 use Rattle.trees.specs.Apart.{apart_parts, apart_union}
 use Rattle.trees.specs.TreesOfCells.{cells_tree}
 use Rattle.trees.specs.Halving.{cells_lt, halves_apart, halves_add, kept_some, lent_some}

@@ -19,5 +19,5 @@ invariant_of-self g c =
       numbers = l.numbers;
       days = l.days;
       orderly = orderly_so roll (change n f roll) (roll_of c.set_holder.new.self) l.issued l.issued l.orderly c.set_holder.ensures.holds
-            (orderly_change n f (record { number = λ x. refl; lender = λ x. refl; due = λ x. refl; ranged = λ x r. (r.0, c.requires, r.2) }) roll l.issued);
+          (orderly_change n f (record { number = λ x. refl; lender = λ x. refl; due = λ x. refl; ranged = λ x r. (r.0, c.requires, r.2) }) roll l.issued);
     }

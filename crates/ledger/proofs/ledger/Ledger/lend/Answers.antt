@@ -51,8 +51,8 @@ invariant_of-self g c =
       numbers = omega (arith, c.requires.number);
       days = l.days;
       orderly = orderly_so roll (change n (with_share v) roll ++ (record { number = i + 1; resource = x.resource; holder = h; lender = n; due = d; share = w } ∷ [])) (roll_of c.push.new.self) i (i + 1) l.orderly
-            (both roll (roll_of c.set_share.new.self) (roll_of c.push.new.self) n h d i x v w c.set_share.ensures.holds c.push.ensures.holds)
-            (orderly_lent n h d x v w roll i c.requires.live c.requires.holder (omega arith) by);
+          (both roll (roll_of c.set_share.new.self) (roll_of c.push.new.self) n h d i x v w c.set_share.ensures.holds c.push.ensures.holds)
+          (orderly_lent n h d x v w roll i c.requires.live c.requires.holder (omega arith) by);
     }
 
 pub returns : goal.returns

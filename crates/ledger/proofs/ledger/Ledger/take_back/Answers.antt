@@ -29,8 +29,8 @@ invariant_of-self g c =
       numbers = l.numbers;
       days = l.days;
       orderly = orderly_so roll (change x.lender f (close n roll)) (roll_of c.add_share.new.self) l.issued l.issued l.orderly
-            (c.add_share.ensures.holds ∙ ap (change x.lender f) c.close.ensures.holds)
-            (λ o. orderly_change x.lender f (record { number = λ y. refl; lender = λ y. refl; due = λ y. refl; ranged = λ y r. r }) (close n roll) l.issued (orderly_close n roll l.issued o));
+          (c.add_share.ensures.holds ∙ ap (change x.lender f) c.close.ensures.holds)
+          (λ o. orderly_change x.lender f (record { number = λ y. refl; lender = λ y. refl; due = λ y. refl; ranged = λ y r. r }) (close n roll) l.issued (orderly_close n roll l.issued o));
     }
 
 pub returns : goal.returns

@@ -45,8 +45,8 @@ invariant_of-self g c =
       numbers = l.numbers;
       days = l.days;
       orderly = orderly_so roll (relend x.number y.number (change x.number (with_share v) (close y.number roll))) (roll_of c.relend.new.self) l.issued l.issued l.orderly
-            (all roll (roll_of c.close.new.self) (roll_of c.set_share.new.self) (roll_of c.relend.new.self) a b x y v v xa yb refl c.close.ensures.holds c.set_share.ensures.holds c.relend.ensures.holds)
-            (λ o. orderly_merge x y roll l.issued less (alike_due x y c.requires.alike) v fx.0 fy.0 o);
+          (all roll (roll_of c.close.new.self) (roll_of c.set_share.new.self) (roll_of c.relend.new.self) a b x y v v xa yb refl c.close.ensures.holds c.set_share.ensures.holds c.relend.ensures.holds)
+          (λ o. orderly_merge x y roll l.issued less (alike_due x y c.requires.alike) v fx.0 fy.0 o);
     }
 
 pub returns : goal.returns

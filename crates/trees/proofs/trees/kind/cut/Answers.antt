@@ -1,5 +1,4 @@
 use Rattle.std.proofs.Common.{◌≡◌, ℕ, sym, refl, ◌∙◌, arith}
-use Rattle.trees.specs.Tree.{kept}
 use Rattle.trees.specs.Cells.{tree_of}
 use Rattle.trees.specs.Block.{level, kept_cells, kept_of}
 use Rattle.trees.specs.TreesOfCells.{cells_tree}
