@@ -1,4 +1,5 @@
 -- Counting shares keep the laws of a kind of share: each has a weight by which it is told, and weights add up in a join.
+-- A proof, which nobody need read: it stands in specs/ because the implementation names it, and no contract cites it.
 use Rattle.std.specs.Prelude.{◌≡◌, ℕ, zero, suc, ◌+◌, ◌-◌, ◌<◌, ◌≤◌, Bool, true, false, cond, T, ◌⊎◌, Some, None, Option, ◌≢◌, nat_le, refl}
 use Rattle.std.proofs.Common.{sym, ap, subst, ◌∙◌, inl, inr, arith, eqb→eq}
 use Rattle.std.proofs.Math.Bool.{Bool-set}

@@ -1,4 +1,5 @@
 -- Sets of cells with nothing in common, as numbers.
+-- A proof, which nobody need read: it stands in specs/ because the implementation names it, and no contract cites it.
 use Rattle.std.specs.Prelude.{◌≡◌, ℕ, zero, suc, ◌+◌, ◌*◌, ◌/◌, ◌%◌, ◌<◌, bit_and, bit_or, refl}
 use Rattle.std.proofs.Common.{sym, ap, ap₂, ◌∙◌, arith, div-add-mod', mod-lt}
 use Rattle.std.proofs.Math.Arith.{bin_ind}

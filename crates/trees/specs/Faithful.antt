@@ -1,4 +1,5 @@
 -- Shares of 64 cells are the canonical trees of height at most 6, in their joins, halves and texts.
+-- A proof, which nobody need read: it stands in specs/ because the implementation names it, and no contract cites it.
 use Rattle.std.specs.Prelude.{◌≡◌, ℕ, zero, suc, ◌/◌, ◌%◌, ◌^◌, ◌<◌, ◌≤◌, max, true, false, ◌⊎◌, ◌↔◌, [], ◌++◌, length, Some, None, bit_and, refl}
 use Rattle.std.proofs.Common.{sym, ap, ap₂, ◌∙◌, inl, inr, ⊎_elim, arith, mod-eq_of_lt}
 use Rattle.std.specs.Int.Bits.{and_lt}

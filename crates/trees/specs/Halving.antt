@@ -1,4 +1,5 @@
 -- The two halves of a tree: they are apart, add up to it, and neither is empty.
+-- A proof, which nobody need read: it stands in specs/ because the implementation names it, and no contract cites it.
 use Rattle.std.specs.Prelude.{◌≡◌, ℕ, zero, suc, ◌+◌, ◌-◌, ◌*◌, ◌^◌, ◌<◌, ◌≤◌, true, false, bit_and, refl}
 use Rattle.std.proofs.Common.{sym, ap, ap₂, subst, ◌∙◌, arith, zero-mul, add-mul, mul-le-mul_right, pow_mono, pow_pos}
 use Rattle.std.specs.Int.Bits.{and_zero_r}

@@ -1,4 +1,5 @@
 -- Tree shares keep the laws of a kind of share.
+-- A proof, which nobody need read: it stands in specs/ because the implementation names it, and no contract cites it.
 use Rattle.std.specs.Prelude.{◌≡◌, ℕ, ◌+◌, ◌-◌, ◌^◌, ◌<◌, Bool, true, false, cond, ◌||◌, T, ◌⊎◌, Some, None, Option, ◌==◌, ◌≢◌, bit_and, bit_or, refl}
 use Rattle.std.proofs.Common.{sym, ap, subst, ◌∙◌, inl, inr, ⊎_elim, arith, add_comm, mod-eq_of_lt, eqb→eq}
 use mathlib.Core.HLevel.{is_prop→PathP}

@@ -1,4 +1,5 @@
 -- The tree of a block's cells: it goes through union and intersection, and tells the cells.
+-- A proof, which nobody need read: it stands in specs/ because the implementation names it, and no contract cites it.
 use Rattle.std.specs.Prelude.{◌≡◌, ℕ, zero, suc, ◌+◌, ◌-◌, ◌*◌, ◌/◌, ◌%◌, ◌^◌, ◌<◌, true, false, ◌≢◌, bit_and, bit_or, refl}
 use Rattle.std.proofs.Common.{sym, ap, ap₂, ◌∙◌, arith, div-add-mod', mod-lt, zero-mul, pow_pos, pow-add, shr_lt}
 use Rattle.std.proofs.Math.Nat.{zero-mod, zero-div}
