@@ -13,7 +13,8 @@ use Rattle.lending.proofs.Rolls.{mem_map, mem_keep, mem_close, rising_keep, risi
 use Rattle.lending.proofs.Changes.{mem_last, source}
 
 module _ {S : Type 0} where
-  pub orderly_none : Orderly {S = S} [] 0
+  -- an empty roll is in order, however many numbers were issued
+  pub orderly_none : {issued : ℕ} → Orderly {S = S} [] issued
   orderly_none = record { rising = tt; within = λ l m. elim m [ ]; lower = λ l m. elim m [ ]; dues = λ l p m. elim m [ ]; ranged = λ l m. elim m [ ] }
 
   pub orderly_keep : (p : Lease S → Bool) (roll : List (Lease S)) (issued : ℕ) → Orderly roll issued → Orderly (keep p roll) issued
