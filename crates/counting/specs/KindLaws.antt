@@ -7,7 +7,7 @@ use mathlib.Core.HLevel.{is_prop→PathP}
 use Rattle.std.proofs.Math.Dec.{eqb_refl}
 use Rattle.std.proofs.lemmas.Bool.{cases_lt, leb-true, le-leb, cond-true, and_parts, and_from, true≢false}
 use Rattle.shares.specs.Kind.{Laws, then}
-use Rattle.shares.proofs.Weighed as by-weight
+use Rattle.shares.proofs.Weighed as by_weight
 use Rattle.counting.specs.declared.permission.Permission.{Permission}
 use Rattle.counting.specs.declared.permission.Permission.TheVariants.{Empty, Source, Readers}
 use Rattle.counting.specs.declared.counting.Counting.{Counting}
@@ -213,11 +213,11 @@ alike_self (Readers k) = eqb_refl k
 pub counting_laws : Laws counting_kind
 unfolding counting_of
 counting_laws = record {
-  commutes = by-weight.commutes weight join told adds joins part;
-  associates = by-weight.associates weight join told adds joins part;
+  commutes = by_weight.commutes weight join told adds joins part;
+  associates = by_weight.associates weight join told adds joins part;
   empty_adds_nothing = λ a. joins a nothing a (omega arith);
-  cancels = by-weight.cancels weight join told adds joins part;
-  empty_has_no_parts = by-weight.positive weight join told adds joins part nothing refl;
+  cancels = by_weight.cancels weight join told adds joins part;
+  empty_has_no_parts = by_weight.positive weight join told adds joins part nothing refl;
   whole_not_empty = λ e. omega (arith, ap weight e);
   whole_takes_only_empty = full;
   halves_join = rejoins;

@@ -1,4 +1,5 @@
 -- What a ledger keeps of itself makes it lawful.
+-- A proof, which nobody need read: it stands in specs/ because the implementation names it, and no contract cites it.
 use Rattle.std.specs.Prelude.{◌≡◌, ℕ, take, refl}
 use Rattle.std.proofs.Common.{ap, arith, length-take}
 use Rattle.office.specs.Lawful.{Lawful}

@@ -99,7 +99,7 @@ module _ {S : Type 0} where
   abbrev pub one_if_done : Answer S → ℕ
   one_if_done a = if_done a 1 0
 
-  -- recall, day and hand_in answer how many they closed
+  -- recall, day and hand-in answer how many they closed
   abbrev pub its_number : Answer S → ℕ
   its_number a = if_number a (λ n. n) 0
 
@@ -107,7 +107,7 @@ module _ {S : Type 0} where
   summed f [] = 0
   summed f (m ∷ ms) = f (closing m.call) m.answer + summed f ms
 
-  -- The four tallies: granted yields and merges, without the yields inside recall, day and hand_in; what recalls and
+  -- The four tallies: granted yields and merges, without the yields inside recall, day and hand-in; what recalls and
   -- hand-ins closed; and what days closed.
   abbrev pub yielded : List (Moment S) → ℕ
   yielded = summed (tally one_if_done none none none)

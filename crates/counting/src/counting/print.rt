@@ -1,6 +1,6 @@
 ghost use Rattle.std.specs.Prelude.{◌≡◌, [], ◌∷◌};
 ghost use Rattle.shares.specs.Text.{in_front};
-ghost use Rattle.counting.specs.Counts.{text as permission-text};
+ghost use Rattle.counting.specs.Counts.{text as permission_text};
 ghost use Rattle.counting.specs.Texts;
 ghost use Rattle.counting.specs.Texts.{tells};
 
@@ -9,7 +9,7 @@ use crate::permission::Permission;
 use shares::{Printed, write_count};
 
 impl Printed for Counting {
-    ghost text = { λ s. permission-text s.held };
+    ghost text = { λ s. permission_text s.held };
 
     ghost short = { λ a. Texts.short a.held a.limited };
 
