@@ -44,20 +44,20 @@ pub fn make<O: Office>(office: &mut O, call: Call) -> Answer<O::Kind>
 }
 
 // The answer of a call that gives a number.
-fn number<S>(res: Result<u16, Refusal>) -> Answer<S>
-    ensures { result ≡ by_number res }
+fn number<S>(answer: Result<u16, Refusal>) -> Answer<S>
+    ensures { result ≡ by_number answer }
 {
-    match res {
+    match answer {
         Ok(n) => Answer::Number(usize::from(n)),
         Err(refusal) => Answer::Refused(refusal),
     }
 }
 
 // The answer of a call that gives nothing.
-fn done<S>(res: Result<(), Refusal>) -> Answer<S>
-    ensures { result ≡ by_done res }
+fn done<S>(answer: Result<(), Refusal>) -> Answer<S>
+    ensures { result ≡ by_done answer }
 {
-    match res {
+    match answer {
         Ok(()) => Answer::Done,
         Err(refusal) => Answer::Refused(refusal),
     }
