@@ -7,8 +7,5 @@ use shares::Share;
 pub fn join_or_keep<S: Share>(a: S, b: S) -> S
     ensures { result ≡ plus S.kind a b }
 {
-    match a.join(b) {
-        Some(both) => both,
-        None => a,
-    }
+    a.join(b).unwrap_or(a)
 }

@@ -1,72 +1,75 @@
 ghost use Rattle.std.specs.Prelude.{◌≡◌};
 ghost use Rattle.lending.specs.Told.{number_of, here, raised};
 
-// Why a call was refused.
-#[derive(Clone, Copy, Drop)]
+use thiserror::Error;
+
+// Why a call was refused, with the number by which everybody knows the reason.
+#[derive(Clone, Copy, PartialEq, Eq, Debug, Drop, Error)]
 pub enum Reason {
-    ResourceOutOfRange,
-    HolderOutOfRange,
-    ResourceIsOpen,
-    NumbersUsedUp,
-    NoRowFree,
-    NotLive,
-    DueDay,
-    DoesNotHalve,
-    LeaseUnderIt,
-    WrongOrder,
-    NotAlike,
-    SameHolder,
-    DayOutOfRange,
-    LeaseFallsDue,
-    NoSuchPosition,
-    OverQuota,
-    OverTerm,
-    ChainTooLong,
+    #[error("the resource is not from 1 to 999")]
+    ResourceOutOfRange = 1,
+    #[error("the holder is not from 1 to 999")]
+    HolderOutOfRange = 2,
+    #[error("the resource is open")]
+    ResourceIsOpen = 3,
+    #[error("all 60000 numbers are issued")]
+    NumbersUsedUp = 4,
+    #[error("no row is free")]
+    NoRowFree = 5,
+    #[error("the lease is not live")]
+    NotLive = 6,
+    #[error("the due day is not after today, or is too late")]
+    DueDay = 7,
+    #[error("the share doesn't halve")]
+    DoesNotHalve = 8,
+    #[error("a live lease is under it")]
+    LeaseUnderIt = 9,
+    #[error("lease a is not below lease b")]
+    WrongOrder = 10,
+    #[error("lenders, holders or due days differ, or the house is the lender")]
+    NotAlike = 11,
+    #[error("the lease has that holder already")]
+    SameHolder = 12,
+    #[error("the day is before today or after day 9999")]
+    DayOutOfRange = 13,
+    #[error("a live lease falls due by that day")]
+    LeaseFallsDue = 14,
+    #[error("there is no such position")]
+    NoSuchPosition = 15,
+    #[error("the holder has too many leases")]
+    OverQuota = 21,
+    #[error("the term is too long")]
+    OverTerm = 22,
+    #[error("the chain of lenders is too long")]
+    ChainTooLong = 23,
 }
 
 impl Reason {
-    // The number by which everybody knows the reason.
+    // Its number.
     pub fn number(self) -> u8
         ensures { result ≡ number_of self }
     {
-        match self {
-            Reason::ResourceOutOfRange => 1,
-            Reason::HolderOutOfRange => 2,
-            Reason::ResourceIsOpen => 3,
-            Reason::NumbersUsedUp => 4,
-            Reason::NoRowFree => 5,
-            Reason::NotLive => 6,
-            Reason::DueDay => 7,
-            Reason::DoesNotHalve => 8,
-            Reason::LeaseUnderIt => 9,
-            Reason::WrongOrder => 10,
-            Reason::NotAlike => 11,
-            Reason::SameHolder => 12,
-            Reason::DayOutOfRange => 13,
-            Reason::LeaseFallsDue => 14,
-            Reason::NoSuchPosition => 15,
-            Reason::OverQuota => 21,
-            Reason::OverTerm => 22,
-            Reason::ChainTooLong => 23,
-        }
+        self as u8
     }
 }
 
 // A refusal, and how many offices have passed it up since: level 0 is the office called.
-#[derive(Clone, Copy, Drop)]
+#[derive(Clone, Copy, PartialEq, Eq, Debug, Drop)]
 pub struct Refusal {
     pub reason: Reason,
     pub level: u8,
 }
 
-impl Refusal {
-    // A refusal of the office called.
-    pub fn here(reason: Reason) -> Refusal
-        ensures { result ≡ here reason }
-    {
+// A refusal of the office called.
+impl From<Reason> for Refusal {
+    ghost from_gives = { λ reason refusal. refusal ≡ here reason };
+
+    fn from(reason: Reason) -> Refusal {
         Refusal { reason, level: 0 }
     }
+}
 
+impl Refusal {
     // The refusal as the next office passes it up. Nobody piles more than 255 layers, so no level is above 255.
     pub fn raised(self) -> Refusal
         ensures { result ≡ raised self }
