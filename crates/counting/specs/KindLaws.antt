@@ -12,6 +12,7 @@ use Rattle.counting.specs.declared.permission.Permission.{Permission}
 use Rattle.counting.specs.declared.permission.Permission.TheVariants.{Empty, Source, Readers}
 use Rattle.counting.specs.declared.counting.Counting.{Counting}
 use Rattle.counting.specs.Limits.{within}
+use Rattle.counting.specs.contracts.permission.PermissionPartialEq.TheImpl as derived
 use Rattle.counting.specs.Counts.{of_permission_by, counting_of, counted, plus, join, less, halve, alike, counting_kind}
 
 -- equal permissions, equal shares
@@ -224,3 +225,15 @@ counting_laws = record {
   halves_not_empty = halves_some;
   same_tells = λ a b. (λ t. same_held a b (alike_is a.held b.held t), λ e. subst (λ (x : Counting). T (alike a.held x.held)) e (alike_self a.held));
 }
+
+-- `==` of permissions is alike
+pub equals : (p q : Permission) → (derived.ghosts).eq p q ≡ alike p q
+equals Empty Empty = refl
+equals Empty (Source m) = refl
+equals Empty (Readers k) = refl
+equals (Source n) Empty = refl
+equals (Source n) (Source m) = refl
+equals (Source n) (Readers k) = refl
+equals (Readers j) Empty = refl
+equals (Readers j) (Source m) = refl
+equals (Readers j) (Readers k) = refl

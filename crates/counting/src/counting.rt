@@ -7,7 +7,7 @@ pub mod kind;
 pub mod print;
 
 // A permission within the limits.
-#[derive(Clone, Copy)]
+#[derive(Clone, Copy, PartialEq, Eq)]
 pub struct Counting {
     held: Permission,
     ghost limited: { within held ≡ true },

@@ -1,5 +1,5 @@
 -- The names of the kinds of share.
-use Rattle.std.specs.Prelude.{◌≡◌, ℕ, List, Some, None, codes, Option, ◌≢◌}
+use Rattle.std.specs.Prelude.{◌≡◌, ℕ, List, Ok, Err, codes, Result, ◌≢◌}
 use Rattle.kinds.specs.declared.kind.KindOfShare.{KindOfShare}
 use Rattle.kinds.specs.declared.kind.KindOfShare.TheVariants.{Trees, Counting}
 
@@ -7,7 +7,7 @@ abbrev pub name_of : KindOfShare → List ℕ
 name_of Trees = codes "trees"
 name_of Counting = codes "counting"
 
--- the kind that a name stands for; None where it stands for none
-abbrev pub Named : List ℕ → Option KindOfShare → Type 0
-Named name (Some kind) = name ≡ name_of kind
-Named name None = (kind : KindOfShare) → name ≢ name_of kind
+-- reading a name gives the kind whose name it is; it fails where no kind has the name
+abbrev pub Named : {E : Type 0} → List ℕ → Result KindOfShare E → Type 0
+Named name (Ok kind) = name ≡ name_of kind
+Named name (Err e) = (kind : KindOfShare) → name ≢ name_of kind

@@ -1,8 +1,12 @@
-ghost use Rattle.std.specs.Prelude.{◌≡◌};
+ghost use Rattle.std.specs.Prelude.{◌≡◌, Some};
 ghost use Rattle.kinds.specs.Named.{name_of, Named};
 
+use std::fmt;
+use std::str::FromStr;
+use thiserror::Error;
+
 // The kinds of share.
-#[derive(Clone, Copy)]
+#[derive(Clone, Copy, PartialEq, Eq, Debug, Drop)]
 pub enum KindOfShare {
     Trees,
     Counting,
@@ -10,6 +14,11 @@ pub enum KindOfShare {
 
 // Their names, for a sentence.
 pub const KIND_NAMES: &str = "trees or counting";
+
+// A name that no kind has.
+#[derive(Clone, Copy, PartialEq, Eq, Debug, Drop, Error)]
+#[error("no kind of share has this name")]
+pub struct NoSuchKind;
 
 impl KindOfShare {
     // The name of a kind.
@@ -21,15 +30,28 @@ impl KindOfShare {
             KindOfShare::Counting => "counting",
         }
     }
+}
 
-    // The kind with a name, if there is one.
-    pub fn named(name: &str) -> Option<KindOfShare>
-        ensures { Named name.now result }
-    {
+// A kind prints as its name.
+impl fmt::Display for KindOfShare {
+    ghost output = { λ kind. Some (name_of kind) };
+
+    fn fmt<W: fmt::Write>(&self, f: &mut fmt::Formatter<W>) -> fmt::Result {
+        f.write_str(self.name())
+    }
+}
+
+// The kind with a name, if there is one.
+impl FromStr for KindOfShare {
+    type Err = NoSuchKind;
+
+    ghost from_str_gives = { Named };
+
+    fn from_str(name: &str) -> Result<KindOfShare, NoSuchKind> {
         match name {
-            "trees" => Some(KindOfShare::Trees),
-            "counting" => Some(KindOfShare::Counting),
-            _ => None,
+            "trees" => Ok(KindOfShare::Trees),
+            "counting" => Ok(KindOfShare::Counting),
+            _ => Err(NoSuchKind),
         }
     }
 }

@@ -4,5 +4,5 @@
 mod kind;
 
 pub use counting::Counting;
-pub use kind::{KIND_NAMES, KindOfShare};
+pub use kind::{KIND_NAMES, KindOfShare, NoSuchKind};
 pub use trees::Trees;

@@ -11,29 +11,24 @@ use shares::Share;
 pub fn lending_is_conserved<S: Share>()
     ensures always { LendingConserved S.kind }
     ensures each { EveryCallConserves S.kind }
-{
-}
+{}
 
 // States what the definitions of the calls rest on, of every state that calls reach.
 pub fn calls_are_exact<S: Share>()
     ensures { CallsExact S.kind }
-{
-}
+{}
 
 // States that a layer over an office is an office.
 pub fn layer_is_an_office<S: Share>()
     ensures { LayerIsOffice S.kind }
-{
-}
+{}
 
 // States that what is played through the definitions, as worked examples are, is a list of calls as the promise means it.
 pub fn plays_are_histories<S: Share>()
     ensures { PlaysAreHistories S.kind }
-{
-}
+{}
 
 // States that no two reasons for a refusal have one number.
 pub fn numbers_tell_reasons_apart()
     ensures { NumbersTellReasonsApart }
-{
-}
+{}

@@ -6,14 +6,6 @@ use Rattle.shares.proofs.Sums.{plus?, plus_join, plus_comm, plus_swap, together_
 use Rattle.loans.specs.declared.loan.Loan.{Loan}
 use Rattle.loans.specs.Loans.{loans_of, left_of, lent_shares}
 
-lent_append : {S : Type 0} (xs ys : List (Loan S)) → lent_shares (xs ++ ys) ≡ lent_shares xs ++ lent_shares ys
-lent_append [] ys = refl
-lent_append (x ∷ xs) ys = ap (λ zs. x.lent ∷ zs) (lent_append xs ys)
-
--- one loan more
-pub lent_push : {S : Type 0} (xs : List (Loan S)) (x : Loan S) → lent_shares (xs ++ (x ∷ [])) ≡ lent_shares xs ++ (x.lent ∷ [])
-lent_push xs x = lent_append xs (x ∷ [])
-
 module _ {S : Type 0} (K : Kind S) where
   -- the loans and what is left where the next borrower is served, and where none is
   abbrev loan : S × S → Loan S

@@ -1,5 +1,5 @@
 -- Loans from one share to borrowers in turn.
-use Rattle.std.specs.Prelude.{◌≡◌, ℕ, zero, suc, List, [], ◌∷◌, Some, None, vec_items}
+use Rattle.std.specs.Prelude.{◌≡◌, ℕ, zero, suc, List, [], ◌∷◌, map, Some, None, vec_items}
 use Rattle.shares.specs.Kind.{Kind}
 use Rattle.loans.specs.declared.loan.Loan.{Loan}
 use Rattle.loans.specs.declared.loan.SharedOut.{SharedOut}
@@ -22,8 +22,7 @@ module _ {S : Type 0} (K : Kind S) where
 
 -- the shares that borrowers got
 abbrev pub lent_shares : {S : Type 0} → List (Loan S) → List S
-lent_shares [] = []
-lent_shares (loan ∷ loans) = loan.lent ∷ lent_shares loans
+lent_shares loans = map (λ loan. loan.lent) loans
 
 -- what is left and what was handed out
 abbrev pub all_shares : {S : Type 0} → SharedOut S → List S

@@ -2,7 +2,7 @@ ghost use Rattle.std.specs.Prelude.{◌≡◌};
 ghost use Rattle.shares.specs.Kind.{Kind, Laws};
 
 // A kind of share. Whoever holds a share of a resource may read it, and whoever holds the whole may write.
-pub trait Share: Copy {
+pub trait Share: Copy + Eq {
     // The five operations, as the laws speak of them.
     ghost kind: { Kind Self };
 
@@ -22,9 +22,8 @@ pub trait Share: Copy {
     fn halve(self) -> Option<(Self, Self)>
         ensures { result ≡ kind.halve self };
 
-    // Whether two shares are equal.
-    fn same(self, other: Self) -> bool
-        ensures { result ≡ kind.same self other };
+    // `==` is the kind's test of equality.
+    ghost equality: { (a b : Self) → Self.eq a b ≡ kind.same a b };
 
     // Every kind owes them.
     ghost laws: { Laws kind };

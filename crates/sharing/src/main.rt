@@ -39,10 +39,9 @@ fn answer(rt: &HostRuntime, line: &str) -> anyhow::Result<()> {
     let Some(order) = read_order(line) else {
         return say_what_is_expected(rt);
     };
-    let name = order.kind.name();
-    let borrowers = order.borrowers;
-    println!(rt; "{name}, borrowers: {borrowers}")?;
-    of_kind!(order.kind, share_out(rt, borrowers))
+    let Order { kind, borrowers } = order;
+    println!(rt; "{kind}, borrowers: {borrowers}")?;
+    of_kind!(kind, share_out(rt, borrowers))
 }
 
 // What is said where there is no order to read.
@@ -56,7 +55,7 @@ fn say_what_is_expected(rt: &HostRuntime) -> anyhow::Result<()> {
 // Reads an order: the name of a kind and a number, two words.
 fn read_order(line: &str) -> Option<Order> {
     let mut words = line.split_whitespace();
-    let kind = KindOfShare::named(words.next()?)?;
+    let kind = words.next()?.parse::<KindOfShare>().ok()?;
     let borrowers = words.next()?.parse::<u16>().ok()?;
     if words.next().is_some() {
         return None;
@@ -68,13 +67,13 @@ fn read_order(line: &str) -> Option<Order> {
 fn share_out<S: Printed>(rt: &HostRuntime, borrowers: u16) -> anyhow::Result<()> {
     let Round { out, back } = lend_and_return::<S>(rt.alloc(), usize::from(borrowers))?;
     let SharedOut { loans, left } = out;
-    print_loans(rt, loans.as_slice())?;
+    print_loans(rt, &loans)?;
     if loans.len() < usize::from(borrowers) {
         let left = text_of(rt.alloc(), left)?;
         println!(rt; "  no more loans: {left} doesn't halve any more")?;
     }
     let text = text_of(rt.alloc(), back)?;
-    if back.same(S::whole()) {
+    if back == S::whole() {
         println!(rt; "  every share is back: {text}, the whole")?;
     } else {
         println!(rt; "  every share is back: {text}, not the whole")?;

@@ -9,10 +9,6 @@ use Rattle.trees.specs.TreesOfCells.{tree_empty, tree_full, tree_mixed}
 use Rattle.trees.specs.Halving.{cells_lt}
 use Rattle.trees.proofs.Sizes.{halving, size_range, two_halves}
 
--- a block is mixed where the code's two tests have failed
-pub mixed : (size cells ones : ℕ) → Block size cells → (cells ≡ 0 → ⊥) → (cells ≡ ones → ⊥) → ones ≡ 2 ^ size - 1 → Mixed size cells
-mixed size cells ones b z f e = record { block = b; some = z; not_all = λ q. f (q ∙ sym e) }
-
 -- one cell is not mixed
 pub not_one : (size cells : ℕ) → Mixed size cells → size ≡ 1 → ⊥
 not_one size cells m e =

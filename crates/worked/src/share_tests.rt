@@ -76,7 +76,7 @@ fn readers_come_back_to_their_source(rt: HostRuntime) -> Result<(), Fail> {
         source
             .join(three)
             .ok_or(Missing::Join)?
-            .same(Counting::whole())
+             == Counting::whole()
     );
     assert!(rt; source.join(four).is_none());
     Ok(())
@@ -147,6 +147,6 @@ fn a_round_of_counting_shares_serves_4095(rt: HostRuntime) -> Result<(), Fail> {
     let round: Round<Counting> = lend_and_return(rt.alloc(), 4096)?;
     assert_eq!(rt; round.out.loans.len(), 4095);
     assert!(rt; prints(round.out.left, b"s4095"));
-    assert!(rt; round.back.same(Counting::whole()));
+    assert!(rt; round.back == Counting::whole());
     Ok(())
 }

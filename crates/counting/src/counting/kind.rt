@@ -1,7 +1,7 @@
 ghost use Rattle.std.specs.Prelude.{◌≡◌, true};
 ghost use Rattle.counting.specs.Limits.{within};
-ghost use Rattle.counting.specs.Counts.{counting_of, counted, plus, less, alike, counting_kind};
-ghost use Rattle.counting.specs.KindLaws.{counting_laws};
+ghost use Rattle.counting.specs.Counts.{counting_of, counted, plus, less, counting_kind};
+ghost use Rattle.counting.specs.KindLaws.{counting_laws, equals};
 
 use crate::counting::Counting;
 use crate::permission::Permission;
@@ -12,6 +12,8 @@ const MOST: u16 = 4095;
 
 impl Share for Counting {
     ghost kind = { counting_kind };
+
+    ghost equality = { λ a b. equals a.held b.held };
 
     ghost laws = { counting_laws };
 
@@ -30,10 +32,6 @@ impl Share for Counting {
     fn halve(self) -> Option<(Counting, Counting)> {
         let kept = counted(less(self.held)?)?;
         Some((kept, of_permission(Permission::Readers(1))))
-    }
-
-    fn same(self, other: Counting) -> bool {
-        alike(self.held, other.held)
     }
 }
 
@@ -69,7 +67,8 @@ fn within(held: Permission) -> bool
 
 // Both permissions as one: readers add up, and readers given back to a source are no longer given out.
 fn plus(a: Permission, b: Permission) -> Option<Permission>
-    requires { (within a ≡ true) × (within b ≡ true) }
+    requires a { within a ≡ true }
+    requires b { within b ≡ true }
     ensures { result ≡ plus a b }
 {
     match (a, b) {
@@ -102,17 +101,5 @@ fn less(held: Permission) -> Option<Permission>
         Permission::Empty => None,
         Permission::Source(n) => Some(Permission::Source(n + 1)),
         Permission::Readers(k) => Some(Permission::Readers(k - 1)),
-    }
-}
-
-// Whether two permissions are equal.
-fn alike(a: Permission, b: Permission) -> bool
-    ensures { result ≡ alike a b }
-{
-    match (a, b) {
-        (Permission::Empty, Permission::Empty) => true,
-        (Permission::Source(n), Permission::Source(m)) => n == m,
-        (Permission::Readers(j), Permission::Readers(k)) => j == k,
-        _ => false,
     }
 }

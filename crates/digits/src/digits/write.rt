@@ -1,15 +1,19 @@
-ghost use Rattle.std.specs.Prelude.{◌≡◌, ◌≤◌, length, take, decimal};
+ghost use Rattle.std.specs.Prelude.{◌≡◌, ◌≤◌, length, decimal};
 ghost use Rattle.digits.specs.Shown.{shown};
 
 use crate::digits::Digits;
+use itoa::Buffer;
 
 impl Digits {
     // The digits of `n`, without leading zeros.
     pub fn of(n: u32) -> Digits
         ensures { shown result ≡ decimal n }
     {
+        let mut buffer = Buffer::new();
+        let text = buffer.format(n).as_bytes();
+        let count = text.len();
         let mut bytes = [b'0'; 10];
-        let count = put_digits(n, &mut bytes);
+        bytes[..count].copy_from_slice(text);
         Digits { bytes, count }
     }
 
@@ -20,19 +24,4 @@ impl Digits {
     {
         &self.bytes[0..self.count]
     }
-}
-
-// Puts the digits of `n` at the front of `bytes`, and answers how many there are.
-fn put_digits(n: u32, bytes: &mut [u8; 10]) -> usize
-    ensures count { result ≡ length (decimal n) }
-    ensures most { result ≤ 10 }
-    ensures front { take result bytes.new ≡ decimal n }
-{
-    if n < 10 {
-        bytes[0] = b'0' + n as u8;
-        return 1;
-    }
-    let last = put_digits(n / 10, bytes);
-    bytes[last] = b'0' + (n % 10) as u8;
-    last + 1
 }

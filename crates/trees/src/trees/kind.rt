@@ -1,13 +1,15 @@
-ghost use Rattle.std.specs.Prelude.{◌≡◌, ◌-◌, ◌/◌, ◌^◌, ◌≤◌, if◌then◌else◌, Some, None, nat_eq};
+ghost use Rattle.std.specs.Prelude.{◌≡◌, refl};
 ghost use Rattle.trees.specs.Cells.{trees_of_cells, cut, trees_kind};
-ghost use Rattle.trees.specs.Block.{Block, Mixed, kept_of};
 ghost use Rattle.trees.specs.KindLaws.{trees_laws};
 
-use crate::trees::{Trees, full};
+use crate::block::Block;
+use crate::trees::Trees;
 use shares::Share;
 
 impl Share for Trees {
     ghost kind = { trees_kind };
+
+    ghost equality = { λ a b. refl };
 
     ghost laws = { trees_laws };
 
@@ -28,12 +30,8 @@ impl Share for Trees {
     }
 
     fn halve(self) -> Option<(Trees, Trees)> {
-        let halves = cut(self.cells)?;
-        Some((of_cells(halves.0), of_cells(halves.1)))
-    }
-
-    fn same(self, other: Trees) -> bool {
-        self.cells == other.cells
+        let (kept, lent) = cut(self.cells)?;
+        Some((of_cells(kept), of_cells(lent)))
     }
 }
 
@@ -51,45 +49,6 @@ fn cut(cells: u64) -> Option<(u64, u64)>
     if cells == 0 {
         return None;
     }
-    let kept = lower(cells, 64)?;
+    let kept = Block::of_64(cells).kept()?;
     Some((kept, cells - kept))
-}
-
-// The lower halves of the filled leaves of a block, or None where one of them is one cell.
-#[cycle(lower_lower_pair)]
-fn lower(cells: u64, size: u32) -> Option<u64>
-    requires { Block size cells }
-    ensures { result ≡ kept_of size cells }
-{
-    if cells == 0 {
-        return Some(0);
-    }
-    if cells == full(size) {
-        return lower_leaf(size);
-    }
-    lower_pair(cells, size)
-}
-
-// The same for a mixed block, by its two halves.
-#[cycle(lower_lower_pair)]
-fn lower_pair(cells: u64, size: u32) -> Option<u64>
-    requires { Mixed size cells }
-    ensures { result ≡ kept_of size cells }
-{
-    let half = size / 2;
-    let low = lower(cells & full(half), half)?;
-    let high = lower(cells >> half, half)?;
-    Some(low | high << half)
-}
-
-// The lower half of a filled leaf of `size` cells, or None where it is one cell.
-fn lower_leaf(size: u32) -> Option<u64>
-    requires { (1 ≤ size) × (size ≤ 64) }
-    ensures { result ≡ (if nat_eq size 1 then None else Some (2 ^ (size / 2) - 1)) }
-{
-    if size == 1 {
-        None
-    } else {
-        Some(full(size / 2))
-    }
 }

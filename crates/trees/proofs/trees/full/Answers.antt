@@ -1,5 +1,0 @@
-use Rattle.trees.proofs.Sizes.{full_is}
-use Rattle.trees.proofs.trees.full.Goals as goal
-
-pub returns : goal.returns
-returns c = full_is c.args.size c.requires.1
