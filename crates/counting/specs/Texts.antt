@@ -1,8 +1,9 @@
 -- The text of a counting share is short, and tells it.
 -- A proof, which nobody need read: it stands in specs/ because the implementation names it, and no contract cites it.
-use Rattle.std.specs.Prelude.{◌≡◌, ℕ, ◌≤◌, true, ◌↔◌, length, decimal, refl}
+use Rattle.std.specs.Prelude.{◌≡◌, ℕ, ◌≤◌, true, ◌↔◌, [], length, decimal, IsAscii, refl}
 use Rattle.std.proofs.Common.{ap, arith}
-use Rattle.std.proofs.lemmas.Fmt.{length-decimal-le, decimal_injective}
+use Rattle.std.proofs.lemmas.Fmt.{IsAscii-decimal, length-decimal-le, decimal_injective}
+use Rattle.std.proofs.lemmas.Str.Ascii.{IsAscii-nil, IsAscii-cons}
 use Rattle.counting.specs.declared.permission.Permission.{Permission}
 use Rattle.counting.specs.declared.permission.Permission.TheVariants.{Empty, Source, Readers}
 use Rattle.counting.specs.declared.counting.Counting.{Counting}
@@ -17,6 +18,11 @@ pub short : (p : Permission) → within p ≡ true → length (text p) ≤ 190
 short Empty e = omega arith
 short (Source n) e = omega (arith, digits_short n (source_few n e))
 short (Readers k) e = omega (arith, digits_short k (readers_few k e).1)
+
+pub ascii : (p : Permission) → within p ≡ true → IsAscii (text p)
+ascii Empty e = IsAscii-cons 101 [] (omega arith) IsAscii-nil
+ascii (Source n) e = IsAscii-cons 115 _ (omega arith) (IsAscii-decimal n (let h = source_few n e in omega arith))
+ascii (Readers k) e = IsAscii-cons 114 _ (omega arith) (IsAscii-decimal k (let h = (readers_few k e).1 in omega arith))
 
 same_number : (m n : ℕ) → m ≤ 4095 → n ≤ 4095 → decimal m ≡ decimal n → m ≡ n
 same_number m n p q d = decimal_injective m n (omega arith) (omega arith) d

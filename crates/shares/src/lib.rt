@@ -11,4 +11,4 @@ pub use count::write_count;
 pub use joins::join_all;
 pub use printed::Printed;
 pub use share::Share;
-pub use text::text_of;
+pub use text::Text;

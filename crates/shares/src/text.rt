@@ -1,13 +1,18 @@
-ghost use Rattle.std.specs.Prelude.{◌≡◌, IfOk, string_bytes, IsUtf8};
+ghost use Rattle.std.specs.Prelude.{Some};
 
 use crate::printed::Printed;
-use std::alloc::{AllocError, Global};
+use std::fmt;
 
-// The text of a share, as text: its bytes are the share's text wherever that is UTF-8.
-pub fn text_of<S: Printed>(alloc: Global, share: S) -> Result<String, AllocError>
-    ensures { IfOk result (λ t. IsUtf8 (S.text share) → string_bytes t ≡ S.text share) }
-{
-    let mut space = [0u8; 190];
-    let length = share.write(&mut space);
-    String::from_utf8_lossy(alloc, &space[0..length])
+// A share that prints as its text.
+#[derive(Clone, Copy)]
+pub struct Text<S>(pub S);
+
+impl<S: Printed> fmt::Display for Text<S> {
+    ghost output = { λ t. Some (S.text t.0) };
+
+    fn fmt<W: fmt::Write>(&self, f: &mut fmt::Formatter<W>) -> fmt::Result {
+        let mut space = [0u8; 190];
+        let length = self.0.write(&mut space);
+        f.write_str(str::from_utf8(&space[..length]).unwrap())
+    }
 }

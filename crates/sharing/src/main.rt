@@ -3,7 +3,7 @@
 
 use kinds::{of_kind, *};
 use loans::{Loan, Round, SharedOut, lend_and_return};
-use shares::{Printed, text_of};
+use shares::{Printed, Text};
 use std::io::ErrorKind;
 
 // What a line asks for: a resource of this kind, shared out among so many borrowers.
@@ -69,14 +69,14 @@ fn share_out<S: Printed>(rt: &HostRuntime, borrowers: u16) -> anyhow::Result<()>
     let SharedOut { loans, left } = out;
     print_loans(rt, &loans)?;
     if loans.len() < usize::from(borrowers) {
-        let left = text_of(rt.alloc(), left)?;
+        let left = Text(left);
         println!(rt; "  no more loans: {left} doesn't halve any more")?;
     }
-    let text = text_of(rt.alloc(), back)?;
+    let all = Text(back);
     if back == S::whole() {
-        println!(rt; "  every share is back: {text}, the whole")?;
+        println!(rt; "  every share is back: {all}, the whole")?;
     } else {
-        println!(rt; "  every share is back: {text}, not the whole")?;
+        println!(rt; "  every share is back: {all}, not the whole")?;
     }
     Ok(())
 }
@@ -85,8 +85,9 @@ fn share_out<S: Printed>(rt: &HostRuntime, borrowers: u16) -> anyhow::Result<()>
 fn print_loans<S: Printed>(rt: &HostRuntime, loans: &[Loan<S>]) -> anyhow::Result<()> {
     for (i, loan) in loans.iter().enumerate() {
         let number = i.saturating_add(1);
-        let lent = text_of(rt.alloc(), loan.lent)?;
-        let kept = text_of(rt.alloc(), loan.kept)?;
+        let Loan { lent, kept } = *loan;
+        let lent = Text(lent);
+        let kept = Text(kept);
         println!(rt; "  loan {number}: lent {lent}, kept {kept}")?;
     }
     Ok(())

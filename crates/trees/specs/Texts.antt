@@ -1,7 +1,9 @@
 -- A text tells its tree, and the text of 64 cells has at most 190 bytes.
 -- A proof, which nobody need read: it stands in specs/ because the implementation names it, and no contract cites it.
-use Rattle.std.specs.Prelude.{◌≡◌, ℕ, zero, suc, ◌+◌, ◌/◌, ◌%◌, ◌^◌, ◌≤◌, true, false, List, [], ◌∷◌, ◌++◌, length, refl}
+use Rattle.std.specs.Prelude.{IsAscii, ◌≡◌, ℕ, zero, suc, ◌+◌, ◌/◌, ◌%◌, ◌^◌, ◌≤◌, true, false, List, [], ◌∷◌, ◌++◌, length, refl}
 use Rattle.std.proofs.Common.{ap₂, append_assoc, arith, length-append}
+use Rattle.std.proofs.lemmas.Str.{IsAscii-append}
+use Rattle.std.proofs.lemmas.Str.Ascii.{IsAscii-nil, IsAscii-cons}
 use Rattle.trees.specs.Tree.{Tree, leaf, node, fold, text}
 use Rattle.trees.specs.Cells.{span, tree_of}
 
@@ -45,3 +47,10 @@ text_short (suc h) n =
     let a = text_short h (n % 2 ^ span h) in
     let b = text_short h (n / 2 ^ span h) in
     omega (arith, text_fold (tree_of h (n % 2 ^ span h)) (tree_of h (n / 2 ^ span h)))
+
+-- a text is ASCII
+pub text_ascii : (t : Tree) → IsAscii (text t)
+text_ascii (leaf true) = IsAscii-cons 49 [] (omega arith) IsAscii-nil
+text_ascii (leaf false) = IsAscii-cons 48 [] (omega arith) IsAscii-nil
+text_ascii (node l r) =
+    IsAscii-cons 40 _ (omega arith) (IsAscii-append (text l) _ (text_ascii l) (IsAscii-append (text r) _ (text_ascii r) (IsAscii-cons 41 [] (omega arith) IsAscii-nil)))

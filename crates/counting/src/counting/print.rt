@@ -13,6 +13,8 @@ impl Printed for Counting {
 
     ghost short = { λ a. Texts.short a.held a.limited };
 
+    ghost ascii = { λ a. Texts.ascii a.held a.limited };
+
     ghost exact = { tells };
 
     fn write(self, space: &mut [u8; 190]) -> usize {

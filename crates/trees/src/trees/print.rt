@@ -1,7 +1,8 @@
 ghost use Rattle.std.specs.Prelude.{◌≡◌, length};
 ghost use Rattle.shares.specs.Text.{in_front};
 ghost use Rattle.trees.specs.Tree.{text};
-ghost use Rattle.trees.specs.Cells.{tree_of, text_of_share};
+ghost use Rattle.trees.specs.Cells.{tree_of, tree, text_of_share};
+ghost use Rattle.trees.specs.Texts.{text_ascii};
 ghost use Rattle.trees.specs.Faithful;
 ghost use Rattle.trees.specs.Faithful.{tells};
 
@@ -13,6 +14,8 @@ impl Printed for Trees {
     ghost text = { text_of_share };
 
     ghost short = { Faithful.short };
+
+    ghost ascii = { λ a. text_ascii (tree a) };
 
     ghost exact = { tells };
 
