@@ -1,7 +1,7 @@
-// The layer Quota: an office over any office that limits how many leases a holder has.
+// The rule Quota: a holder has so many leases at most.
 #![tactic(auto)]
 
-mod calls;
+mod held;
 mod quota;
 
 pub use quota::Quota;
