@@ -2,7 +2,6 @@
 // up from there.
 #![tactic(auto)]
 
-mod calls;
 mod layer;
 mod rule;
 
