@@ -1,14 +1,11 @@
-ghost use Rattle.std.specs.Prelude.{◌≡◌, is_ok};
+ghost use Rattle.std.specs.Prelude.{◌≡◌};
 ghost use Rattle.lending.specs.Office.{SetUp};
 ghost use Rattle.lending.specs.Layers.{layered};
-ghost use Rattle.lending.specs.Told.{told_number};
-ghost use Rattle.layer.specs.Means.{layer_means, layer_rows, Passing};
 ghost use Rattle.layer.specs.Lawful.{layer_lawful};
 
 use crate::rule::{Request, Rule};
 use lending::{Lease, Refusal};
 use office::Office;
-use shares::Share;
 
 // An office over another, which objects by a rule.
 #[derive(Drop)]
@@ -20,29 +17,20 @@ pub struct Layer<O, R> {
 impl<O: Office, R: Rule<O>> Layer<O, R> {
     // The layer over an office, with its rule.
     pub fn new(below: O, rule: R) -> Layer<O, R>
-        ensures stands { layer_means O.Office.meaning R.Rule.objects result ≡ layered (R.Rule.objects rule) (O.Office.meaning below) }
-        ensures set_up { SetUp (O.Office.meaning below) → SetUp (layer_means O.Office.meaning R.Rule.objects result) }
-        ensures rows { layer_rows O.Office.rows result ≡ O.Office.rows below }
+        ensures stands { ⟦<Layer<O, R> as Office>⟧.meaning result ≡ layered (R.Rule.objects rule) (O.Office.meaning below) }
+        ensures set_up { SetUp (O.Office.meaning below) → SetUp (⟦<Layer<O, R> as Office>⟧.meaning result) }
+        ensures rows { ⟦<Layer<O, R> as Office>⟧.rows result ≡ O.Office.rows below }
     {
         Layer { below, rule }
     }
 }
 
-// A number that the office below answered, or its refusal raised: what any layer answers that has no objection of its own.
-#[tactic(auto, using(crate::proofs::Passing::number_passes))]
-fn number_up<S: Share>(answer: Result<u16, Refusal>) -> Result<u16, Refusal>
-    ensures ok { is_ok result ≡ is_ok answer }
-    ensures passes { Passing S.kind (told_number answer) (told_number result) }
-{
-    answer.map_err(Refusal::raised)
-}
-
 impl<O: Office, R: Rule<O>> Office for Layer<O, R> {
     type Kind = O::Kind;
 
-    ghost meaning = { layer_means O.Office.meaning R.Rule.objects };
+    ghost meaning = { λ layer. layered (R.Rule.objects layer.rule) (O.Office.meaning layer.below) };
 
-    ghost rows = { layer_rows O.Office.rows };
+    ghost rows = { λ layer. O.Office.rows layer.below };
 
     ghost lawful = { layer_lawful O.Office.meaning O.Office.rows R.Rule.objects O.Office.lawful };
 
@@ -66,14 +54,16 @@ impl<O: Office, R: Rule<O>> Office for Layer<O, R> {
         self.below.lease(lease).map_err(Refusal::raised)
     }
 
+    #[tactic(auto, using(crate::proofs::Passing::opened))]
     fn open(&mut self, resource: u16, holder: u16) -> Result<u16, Refusal> {
         let request = Request::Open { resource, holder };
         if let Some(reason) = self.rule.objection(&self.below, request) {
             return Err(reason.into());
         }
-        number_up::<O::Kind>(self.below.open(resource, holder))
+        self.below.open(resource, holder).map_err(Refusal::raised)
     }
 
+    #[tactic(auto, using(crate::proofs::Passing::delegated))]
     fn delegate(&mut self, lender: u16, holder: u16, due: u16) -> Result<u16, Refusal> {
         let request = Request::Delegate {
             lender,
@@ -83,7 +73,9 @@ impl<O: Office, R: Rule<O>> Office for Layer<O, R> {
         if let Some(reason) = self.rule.objection(&self.below, request) {
             return Err(reason.into());
         }
-        number_up::<O::Kind>(self.below.delegate(lender, holder, due))
+        self.below
+            .delegate(lender, holder, due)
+            .map_err(Refusal::raised)
     }
 
     fn yield_lease(&mut self, lease: u16) -> Result<(), Refusal> {
