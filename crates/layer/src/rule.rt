@@ -1,13 +1,15 @@
 ghost use Rattle.std.specs.Prelude.{◌≡◌, ℕ, List, Option};
+ghost use Rattle.std.specs.Option.{option_map};
 ghost use Rattle.lending.specs.declared.lease.Lease.{Lease};
 ghost use Rattle.lending.specs.Office.{Request};
-ghost use Rattle.layer.specs.Asked.{requested, number_given};
+ghost use Rattle.lending.specs.Told.{number_of};
+ghost use Rattle.layer.specs.Asked.{requested};
 
 use lending::Reason;
 use office::Office;
 
 // What a layer may object to.
-#[derive(Clone, Copy, Drop)]
+#[derive(Clone, Copy)]
 pub enum Request {
     Open { resource: u16, holder: u16 },
     Delegate { lender: u16, holder: u16, due: u16 },
@@ -21,5 +23,5 @@ pub trait Rule<O: Office> {
 
     // The reason why it objects to a request, if it does.
     fn objection(&self, below: &O, request: Request) -> Option<Reason>
-        ensures { number_given result ≡ objects self.now (O.Office.meaning below.now).core.roll (O.Office.meaning below.now).core.today (requested request) };
+        ensures { option_map number_of result ≡ objects self.now (O.Office.meaning below.now).core.roll (O.Office.meaning below.now).core.today (requested request) };
 }

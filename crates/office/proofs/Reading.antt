@@ -1,5 +1,5 @@
 -- What an office's answer at a position says of the leases from there on.
-use Rattle.std.proofs.Common.{◌≡◌, ℕ, zero, suc, ◌+◌, List, [], ◌∷◌, drop, Ok, Err, Some, None, Option, Result, ◌∙◌, sym, ap, refl, add-one, arith}
+use Rattle.std.proofs.Common.{◌≡◌, ℕ, zero, suc, ◌+◌, ◌<◌, ◌≤◌, Bool, true, false, List, [], ◌∷◌, length, drop, Ok, Err, Some, None, Option, Result, MatchOption, IsSome, refl, sym, ap, ◌∙◌, add-one, length-drop, arith}
 use Rattle.std.specs.Result.{result_ok}
 use mathlib.Core.Option as maybe
 use lib.ListN.{get_elem?}
@@ -24,21 +24,20 @@ module _ {A : Type 0} where
   drop_suc (y ∷ ys) zero x e = cc
   drop_suc (y ∷ ys) (suc i) x e = drop_suc ys i x e
 
-module _ {S : Type 0} (K : Kind S) (s t : State S) (i : ℕ) where
-  -- the lease that was answered is the first of those
-  pub comes_first : (r : Result (Lease S) Refusal) (x : Lease S) → Does K s (ask_lease_at i) (told_lease r) t → Some x ≡ result_ok r → drop i s.core.roll ≡ x ∷ drop (i + 1) s.core.roll
-  comes_first (Ok y) x d e = go (get_elem? s.core.roll i) refl d
-    where
-      go : (o : maybe.Option (Lease S)) → get_elem? s.core.roll i ≡ o → Ends (tell_at s.core.depth o) s (told_lease (Ok y)) t → drop i s.core.roll ≡ x ∷ drop (i + 1) s.core.roll
-      go maybe.none f d = let f = d.0 in cc
-      go (maybe.some z) f d = let g = d.0 in let k : get_elem? s.core.roll i ≡ maybe.some x = cc in drop_suc s.core.roll i x k ∙ ap (λ j. x ∷ drop j s.core.roll) (sym (add-one i))
-  comes_first (Err f) x d e = cc
+  -- o is the first item from a position on, or there is none there
+  abbrev pub First : ℕ → List A → Option A → Type 0
+  First i xs o = MatchOption o (drop i xs ≡ []) (λ x. drop i xs ≡ x ∷ drop (i + 1) xs)
 
-  -- where it was refused, there are none
-  pub none_come : (r : Result (Lease S) Refusal) → Does K s (ask_lease_at i) (told_lease r) t → None ≡ result_ok r → drop i s.core.roll ≡ []
-  none_come (Ok y) d e = cc
-  none_come (Err f) d e = none_left s.core.roll i (go (get_elem? s.core.roll i) d)
+  pub first_within : (i : ℕ) (xs : List A) (o : Option A) → First i xs o → IsSome o → i < length xs
+  first_within i xs None e h = let z : false ≡ true = h in cc
+  first_within i xs (Some x) e h = let n = ap length e in omega (arith, length-drop i xs)
+
+module _ {S : Type 0} (K : Kind S) (s t : State S) where
+  pub first_lease : (i : ℕ) (r : Result (Lease S) Refusal) → Does K s (ask_lease_at i) (told_lease r) t → First i s.core.roll (result_ok r)
+  first_lease i r d = go (get_elem? s.core.roll i) refl r d
     where
-      go : (o : maybe.Option (Lease S)) → Ends (tell_at s.core.depth o) s (told_lease (Err f)) t → o ≡ maybe.none
-      go maybe.none e = refl
-      go (maybe.some y) e = let q = e.0 in cc
+      go : (o : maybe.Option (Lease S)) → get_elem? s.core.roll i ≡ o → (r : Result (Lease S) Refusal) → Ends (tell_at s.core.depth o) s (told_lease r) t → First i s.core.roll (result_ok r)
+      go maybe.none f (Ok y) d = let g = d.0 in cc
+      go maybe.none f (Err h) d = none_left s.core.roll i f
+      go (maybe.some z) f (Ok y) d = let g = d.0 in let k : get_elem? s.core.roll i ≡ maybe.some y = cc in drop_suc s.core.roll i y k ∙ ap (λ j. y ∷ drop j s.core.roll) (sym (add-one i))
+      go (maybe.some z) f (Err h) d = let g = d.0 in cc
