@@ -1,6 +1,8 @@
-ghost use Rattle.std.specs.Prelude.{◌≡◌};
+ghost use Rattle.std.specs.Prelude.{◌≡◌, MatchResult};
 ghost use Rattle.lending.specs.Office.{SetUp};
 ghost use Rattle.lending.specs.Layers.{layered};
+ghost use Rattle.lending.specs.Told.{number_of};
+ghost use Rattle.layer.specs.Asked.{requested};
 ghost use Rattle.layer.specs.Lawful.{layer_lawful};
 
 use crate::rule::{Request, Rule};
@@ -22,6 +24,16 @@ impl<O: Office, R: Rule<O>> Layer<O, R> {
         ensures rows { ⟦<Layer<O, R> as Office>⟧.rows result ≡ O.Office.rows below }
     {
         Layer { below, rule }
+    }
+
+    // Refuses what the rule objects to.
+    fn allow(&self, request: Request) -> Result<(), Refusal>
+        ensures { let s = O.Office.meaning self.now.below in let mine = R.Rule.objects self.now.rule s.core.roll s.core.today (requested request) in MatchResult result (λ x. mine ≡ None) (λ refusal. (mine ≡ Some (number_of refusal.reason)) × (refusal.level ≡ 0)) }
+    {
+        match self.rule.objection(&self.below, request) {
+            Some(reason) => Err(reason.into()),
+            None => Ok(()),
+        }
     }
 }
 
@@ -56,23 +68,17 @@ impl<O: Office, R: Rule<O>> Office for Layer<O, R> {
 
     #[tactic(auto, using(crate::proofs::Passing::opened))]
     fn open(&mut self, resource: u16, holder: u16) -> Result<u16, Refusal> {
-        let request = Request::Open { resource, holder };
-        if let Some(reason) = self.rule.objection(&self.below, request) {
-            return Err(reason.into());
-        }
+        self.allow(Request::Open { resource, holder })?;
         self.below.open(resource, holder).map_err(Refusal::raised)
     }
 
     #[tactic(auto, using(crate::proofs::Passing::delegated))]
     fn delegate(&mut self, lender: u16, holder: u16, due: u16) -> Result<u16, Refusal> {
-        let request = Request::Delegate {
+        self.allow(Request::Delegate {
             lender,
             holder,
             due,
-        };
-        if let Some(reason) = self.rule.objection(&self.below, request) {
-            return Err(reason.into());
-        }
+        })?;
         self.below
             .delegate(lender, holder, due)
             .map_err(Refusal::raised)
@@ -87,10 +93,7 @@ impl<O: Office, R: Rule<O>> Office for Layer<O, R> {
     }
 
     fn assign(&mut self, lease: u16, holder: u16) -> Result<(), Refusal> {
-        let request = Request::Assign { lease, holder };
-        if let Some(reason) = self.rule.objection(&self.below, request) {
-            return Err(reason.into());
-        }
+        self.allow(Request::Assign { lease, holder })?;
         self.below.assign(lease, holder).map_err(Refusal::raised)
     }
 
