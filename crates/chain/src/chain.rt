@@ -1,6 +1,7 @@
-ghost use Rattle.chain.specs.Means.{chain_objects};
+ghost use Rattle.std.specs.Prelude.{◌≡◌};
+ghost use Rattle.lending.specs.Roll.{find, height};
+ghost use Rattle.chain.specs.Means.{lender_of_lease, chain_objects};
 
-use crate::height::height_of;
 use layer::{Request, Rule};
 use lending::Reason;
 use office::Office;
@@ -21,4 +22,28 @@ impl<O: Office> Rule<O> for Chain {
         below.lease(lender).ok()?;
         (height_of(below, lender) >= self.limit).then_some(Reason::ChainTooLong)
     }
+}
+
+// The lender of a live lease, unless that is the house.
+fn lender_of<O: Office>(office: &O, lease: u16) -> Option<u16>
+    ensures { result ≡ lender_of_lease (find (O.Office.meaning office.now).core.roll lease) }
+{
+    office
+        .lease(lease)
+        .ok()
+        .map(|found| found.lender)
+        .filter(|lender| *lender != 0)
+}
+
+// How many leases are above a lease. A lender's number is lower, so that the walk up ends.
+fn height_of<O: Office>(office: &O, lease: u16) -> u16
+    ensures { result ≡ height (O.Office.meaning office.now).core.roll lease }
+{
+    let mut height = 0;
+    let mut reached = lease;
+    while let Some(lender) = lender_of(office, reached) {
+        reached = lender;
+        height += 1;
+    }
+    height
 }

@@ -2,6 +2,5 @@
 #![tactic(auto)]
 
 mod chain;
-mod height;
 
 pub use chain::Chain;

@@ -1,7 +1,6 @@
 // The rule Quota: a holder has so many leases at most.
 #![tactic(auto)]
 
-mod held;
 mod quota;
 
 pub use quota::Quota;

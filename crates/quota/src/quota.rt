@@ -1,9 +1,10 @@
+ghost use Rattle.std.specs.Prelude.{◌≡◌};
+ghost use Rattle.lending.specs.Roll.{held};
 ghost use Rattle.quota.specs.Means.{quota_objects};
 
-use crate::held::held_by;
 use layer::{Request, Rule};
 use lending::Reason;
-use office::Office;
+use office::{Office, leases};
 
 // A layer with this rule objects where a holder that has `limit` leases would get one more.
 #[derive(Clone, Copy, PartialEq, Eq, Debug, Drop)]
@@ -20,4 +21,13 @@ impl<O: Office> Rule<O> for Quota {
         | Request::Assign { holder, .. }) = request;
         (held_by(below, holder) >= usize::from(self.limit)).then_some(Reason::OverQuota)
     }
+}
+
+// How many live leases a holder has.
+fn held_by<O: Office>(office: &O, holder: u16) -> usize
+    ensures { result ≡ held (O.Office.meaning office.now).core.roll holder }
+{
+    leases(office)
+        .filter(|lease| lease.holder == holder)
+        .count()
 }

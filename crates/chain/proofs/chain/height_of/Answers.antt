@@ -1,6 +1,6 @@
 use Rattle.std.proofs.Common.{◌-◌, arith}
 use Rattle.chain.proofs.Heights.{stops, goes_on, lower}
-use Rattle.chain.proofs.height.height_of.Goals as goal
+use Rattle.chain.proofs.chain.height_of.Goals as goal
 
 pub overflow_add-height : goal.overflow_add-height
 overflow_add-height g c =

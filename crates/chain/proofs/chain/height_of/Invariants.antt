@@ -1,6 +1,6 @@
 use Rattle.std.proofs.Common.{◌≡◌, ◌+◌, ◌-◌, ◌≤◌, length}
 use Rattle.lending.specs.Roll.{lenders, height}
-use Rattle.chain.proofs.height.height_of.Given as goal
+use Rattle.chain.proofs.chain.height_of.Given as goal
 
 abbrev pub invariant-loop-lender : goal.invariant-loop-lender
 invariant-loop-lender g l = let roll = (g.O.Office.meaning l.office).core.roll in
