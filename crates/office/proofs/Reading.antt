@@ -1,5 +1,5 @@
 -- What an office's answer at a position says of the leases from there on.
-use Rattle.std.proofs.Common.{◌≡◌, ℕ, zero, suc, ◌+◌, ◌<◌, ◌≤◌, Bool, true, false, List, [], ◌∷◌, length, drop, Ok, Err, Some, None, Option, Result, MatchOption, IsSome, refl, sym, ap, ◌∙◌, add-one, length-drop, arith}
+use Rattle.std.proofs.Common.{◌≡◌, ℕ, zero, suc, ◌+◌, ◌<◌, true, false, List, [], ◌∷◌, length, drop, Ok, Err, Some, None, Option, Result, MatchOption, IsSome, refl, sym, ap, ◌∙◌, add-one, length-drop, arith}
 use Rattle.std.specs.Result.{result_ok}
 use mathlib.Core.Option as maybe
 use lib.ListN.{get_elem?}

@@ -1,4 +1,4 @@
-use Rattle.std.proofs.Common.{◌<◌, length, sym, subst, arith}
+use Rattle.std.proofs.Common.{sym, subst, arith}
 use Rattle.office.proofs.Reading.{First, first_lease, first_within}
 use Rattle.office.proofs.live.first_from.Goals as goal
 
