@@ -8,18 +8,14 @@ use Rattle.lending.specs.Layers.{up, own_or_raised, layered}
 use Rattle.office.specs.Lawful.{Lawful}
 use Rattle.layer.specs.declared.layer.Layer.{Layer}
 
+abbrev level_of : Option Refusal → ℕ
+level_of None = 0
+level_of (Some f) = f.level
+
 below_depth : (depth : ℕ) (mine : Option ℕ) (below : Option Refusal) (r : Refusal) → ((f : Refusal) → below ≡ Some f → up f.level ≤ depth) → own_or_raised mine below ≡ Some r → up r.level ≤ up depth
-below_depth depth (Some n) below r h e = let k : 0 ≡ r.level = ap (λ (o : Option Refusal). level_of o) e in omega arith
-  where
-    level_of : Option Refusal → ℕ
-    level_of None = 0
-    level_of (Some f) = f.level
+below_depth depth (Some n) below r h e = let k : 0 ≡ r.level = ap level_of e in omega arith
 below_depth depth None None r h e = cc
-below_depth depth None (Some f) r h e = let k : up f.level ≡ r.level = ap (λ (o : Option Refusal). level_of o) e in let l = h f refl in omega arith
-  where
-    level_of : Option Refusal → ℕ
-    level_of None = 0
-    level_of (Some f) = f.level
+below_depth depth None (Some f) r h e = let k : up f.level ≡ r.level = ap level_of e in let l = h f refl in omega arith
 
 pub layer_lawful : {O R S : Type 0} (means : O → State S) (rows : O → List (Lease S)) (objects : R → List (Lease S) → ℕ → Request → Option ℕ) → ((o : O) → Lawful (means o) (rows o)) → (layer : Layer O R) → Lawful (layered (objects layer.rule) (means layer.below)) (rows layer.below)
 layer_lawful means rows objects lawful layer =
