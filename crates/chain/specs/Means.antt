@@ -1,11 +1,10 @@
--- What the layer Chain stands for.
+-- What the rule Chain objects to.
 use Rattle.std.specs.Prelude.{ℕ, cond, ◌&&◌, List, Some, None, Option, ◌==◌, nat_le}
 use Rattle.lending.specs.declared.lease.Lease.{Lease}
-use Rattle.lending.specs.Office.{State, Request}
+use Rattle.lending.specs.Office.{Request}
 use Rattle.lending.specs.Office.Request.{opening, delegating, assigning}
 use Rattle.lending.specs.Roll.{live, height}
-use Rattle.lending.specs.Layers.{number_if, layered}
-use Rattle.chain.specs.declared.chain.Chain.{Chain}
+use Rattle.lending.specs.Layers.{number_if}
 
 -- the lender of a lease, if there is the lease and its lender is not the house
 abbrev pub lender_of_lease : {S : Type 0} → Option (Lease S) → Option ℕ
@@ -17,10 +16,3 @@ abbrev pub chain_objects : {S : Type 0} → ℕ → List (Lease S) → ℕ → R
 chain_objects limit roll today (opening resource holder) = None
 chain_objects limit roll today (delegating lender holder due) = number_if (live roll lender && nat_le limit (height roll lender)) 23
 chain_objects limit roll today (assigning lease holder) = None
-
-module _ {O S : Type 0} where
-  abbrev pub chain_means : (O → State S) → Chain O → State S
-  chain_means means q = layered (chain_objects q.limit) (means q.below)
-
-  abbrev pub chain_rows : (O → List (Lease S)) → Chain O → List (Lease S)
-  chain_rows rows q = rows q.below

@@ -1,6 +1,49 @@
-// An office over another that objects where a lease that has `limit` leases above it would lend.
-#[derive(Drop)]
-pub struct Chain<O> {
-    pub(crate) below: O,
-    pub(crate) limit: u16,
+ghost use Rattle.std.specs.Prelude.{◌≡◌};
+ghost use Rattle.lending.specs.Roll.{find, height};
+ghost use Rattle.chain.specs.Means.{lender_of_lease, chain_objects};
+
+use layer::{Request, Rule};
+use lending::Reason;
+use office::Office;
+
+// A layer with this rule objects where a lease that has `limit` leases above it would lend.
+#[derive(Clone, Copy, PartialEq, Eq, Debug, Drop)]
+pub struct Chain {
+    pub limit: u16,
+}
+
+impl<O: Office> Rule<O> for Chain {
+    ghost objects = { λ chain. chain_objects chain.limit };
+
+    fn objection(&self, below: &O, request: Request) -> Option<Reason> {
+        let Request::Delegate { lender, .. } = request else {
+            return None;
+        };
+        below.lease(lender).ok()?;
+        (height_of(below, lender) >= self.limit).then_some(Reason::ChainTooLong)
+    }
+}
+
+// The lender of a live lease, unless that is the house.
+fn lender_of<O: Office>(office: &O, lease: u16) -> Option<u16>
+    ensures { result ≡ lender_of_lease (find (O.Office.meaning office.now).core.roll lease) }
+{
+    office
+        .lease(lease)
+        .ok()
+        .map(|found| found.lender)
+        .filter(|lender| *lender != 0)
+}
+
+// How many leases are above a lease. A lender's number is lower, so that the walk up ends.
+fn height_of<O: Office>(office: &O, lease: u16) -> u16
+    ensures { result ≡ height (O.Office.meaning office.now).core.roll lease }
+{
+    let mut height = 0;
+    let mut reached = lease;
+    while let Some(lender) = lender_of(office, reached) {
+        reached = lender;
+        height += 1;
+    }
+    height
 }

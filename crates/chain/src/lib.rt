@@ -1,7 +1,6 @@
-// The layer Chain: an office over any office that limits how long a chain of lenders is.
+// The rule Chain: a chain of lenders has so many leases at most.
 #![tactic(auto)]
 
-mod calls;
 mod chain;
 
 pub use chain::Chain;

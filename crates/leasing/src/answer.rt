@@ -4,6 +4,7 @@ use crate::show::{print_answer, print_call, print_roll};
 use chain::Chain;
 use desk::{Call, make};
 use kinds::KIND_NAMES;
+use layer::Layer;
 use ledger::Ledger;
 use lending::{Lease, MOST_ROWS};
 use office::Office;
@@ -56,9 +57,18 @@ fn serve_over<S: Printed, O: Office<Kind = S> + Drop>(
     office: SetUp,
     lines: &[Line],
 ) -> anyhow::Result<()> {
-    let mut pile = Quota::new(
-        Term::new(Chain::new(below, office.chain), office.term),
-        office.quota,
+    let chain = Layer::new(
+        below,
+        Chain {
+            limit: office.chain,
+        },
+    );
+    let term = Layer::new(chain, Term { days: office.term });
+    let mut pile = Layer::new(
+        term,
+        Quota {
+            limit: office.quota,
+        },
     );
     for line in lines {
         match *line {

@@ -1,40 +1,43 @@
--- What an office's answers to questions say of its roll.
-use Rattle.std.proofs.Common.{◌≡◌, ℕ, zero, suc, ◌+◌, ◌<◌, List, [], ◌∷◌, length, drop, sym, refl, ap, ◌∙◌, add-one, arith}
+-- What an office's answer at a position says of the leases from there on.
+use Rattle.std.proofs.Common.{◌≡◌, ℕ, zero, suc, ◌+◌, ◌<◌, true, false, List, [], ◌∷◌, length, drop, Ok, Err, Some, None, Option, Result, MatchOption, IsSome, refl, sym, ap, ◌∙◌, add-one, length-drop, arith}
+use Rattle.std.specs.Result.{result_ok}
 use mathlib.Core.Option as maybe
 use lib.ListN.{get_elem?}
 use Rattle.lending.specs.declared.lease.Lease.{Lease}
+use Rattle.lending.specs.declared.refusal.Refusal.{Refusal}
 use Rattle.shares.specs.Kind.{Kind}
-use Rattle.lending.specs.Office.{State, Refusal}
+use Rattle.lending.specs.Office.{State}
 use Rattle.lending.specs.Outcome.{tell_at}
 use Rattle.lending.specs.Outcome.Call.{ask_lease_at}
-use Rattle.lending.specs.Outcome.Answer.{lease, refused}
 use Rattle.lending.specs.Perform.{Does, Ends}
-
-module _ {S : Type 0} (K : Kind S) (s t : State S) where
-  pub lease_is : (i : ℕ) (x : Lease S) → Does K s (ask_lease_at i) (lease x) t → get_elem? s.core.roll i ≡ maybe.some x
-  lease_is i x d = go (get_elem? s.core.roll i) d
-    where
-      go : (o : maybe.Option (Lease S)) → Ends (tell_at s.core.depth o) s (lease x) t → o ≡ maybe.some x
-      go maybe.none e = let f = e.0 in let z : ◌≡◌ {A = ℕ} 0 1 = cc in absurd (omega arith)
-      go (maybe.some y) e = let f = e.0 in cc
-
-  pub lease_not : (i : ℕ) (f : Refusal) → Does K s (ask_lease_at i) (refused f) t → get_elem? s.core.roll i ≡ maybe.none
-  lease_not i f d = go (get_elem? s.core.roll i) d
-    where
-      go : (o : maybe.Option (Lease S)) → Ends (tell_at s.core.depth o) s (refused f) t → o ≡ maybe.none
-      go maybe.none e = refl
-      go (maybe.some y) e = let q = e.0 in let z : ◌≡◌ {A = ℕ} 0 1 = cc in absurd (omega arith)
+use Rattle.lending.specs.Told.{told_lease}
 
 module _ {A : Type 0} where
-  pub within_not : (xs : List A) (i : ℕ) → i < length xs → get_elem? xs i ≡ maybe.none → ⊥
-  within_not [] i h e = omega arith
-  within_not (x ∷ xs) zero h e = let z : ◌≡◌ {A = ℕ} 0 1 = cc in omega arith
-  within_not (x ∷ xs) (suc i) h e = within_not xs i (omega arith) e
+  none_left : (xs : List A) (i : ℕ) → get_elem? xs i ≡ maybe.none → drop i xs ≡ []
+  none_left [] zero e = refl
+  none_left [] (suc i) e = refl
+  none_left (x ∷ xs) zero e = cc
+  none_left (x ∷ xs) (suc i) e = none_left xs i e
 
   drop_suc : (xs : List A) (i : ℕ) (x : A) → get_elem? xs i ≡ maybe.some x → drop i xs ≡ x ∷ drop (suc i) xs
-  drop_suc [] i x e = let z : ◌≡◌ {A = ℕ} 0 1 = cc in absurd (omega arith)
-  drop_suc (y ∷ ys) zero x e = let q : y ≡ x = cc in ap (λ v. v ∷ ys) q
+  drop_suc [] i x e = cc
+  drop_suc (y ∷ ys) zero x e = cc
   drop_suc (y ∷ ys) (suc i) x e = drop_suc ys i x e
 
-  pub drop_here : (xs : List A) (i : ℕ) (x : A) → get_elem? xs i ≡ maybe.some x → drop i xs ≡ x ∷ drop (i + 1) xs
-  drop_here xs i x e = drop_suc xs i x e ∙ ap (λ j. x ∷ drop j xs) (sym (add-one i))
+  -- o is the first item from a position on, or there is none there
+  abbrev pub First : ℕ → List A → Option A → Type 0
+  First i xs o = MatchOption o (drop i xs ≡ []) (λ x. drop i xs ≡ x ∷ drop (i + 1) xs)
+
+  pub first_within : (i : ℕ) (xs : List A) (o : Option A) → First i xs o → IsSome o → i < length xs
+  first_within i xs None e h = let z : false ≡ true = h in cc
+  first_within i xs (Some x) e h = let n = ap length e in omega (arith, length-drop i xs)
+
+module _ {S : Type 0} (K : Kind S) (s t : State S) where
+  pub first_lease : (i : ℕ) (r : Result (Lease S) Refusal) → Does K s (ask_lease_at i) (told_lease r) t → First i s.core.roll (result_ok r)
+  first_lease i r d = go (get_elem? s.core.roll i) refl r d
+    where
+      go : (o : maybe.Option (Lease S)) → get_elem? s.core.roll i ≡ o → (r : Result (Lease S) Refusal) → Ends (tell_at s.core.depth o) s (told_lease r) t → First i s.core.roll (result_ok r)
+      go maybe.none f (Ok y) d = let g = d.0 in cc
+      go maybe.none f (Err h) d = none_left s.core.roll i f
+      go (maybe.some z) f (Ok y) d = let g = d.0 in let k : get_elem? s.core.roll i ≡ maybe.some y = cc in drop_suc s.core.roll i y k ∙ ap (λ j. y ∷ drop j s.core.roll) (sym (add-one i))
+      go (maybe.some z) f (Err h) d = let g = d.0 in cc

@@ -1,2 +1,2 @@
 pub mod Lawful
-pub mod Passed
+pub mod Left

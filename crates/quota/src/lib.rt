@@ -1,7 +1,6 @@
-// The layer Quota: an office over any office that limits how many leases a holder has.
+// The rule Quota: a holder has so many leases at most.
 #![tactic(auto)]
 
-mod calls;
 mod quota;
 
 pub use quota::Quota;

@@ -1,6 +1,33 @@
-// An office over another that objects where a holder that has `limit` leases would get one more.
-#[derive(Drop)]
-pub struct Quota<O> {
-    pub(crate) below: O,
-    pub(crate) limit: u16,
+ghost use Rattle.std.specs.Prelude.{◌≡◌};
+ghost use Rattle.lending.specs.Roll.{held};
+ghost use Rattle.quota.specs.Means.{quota_objects};
+
+use layer::{Request, Rule};
+use lending::Reason;
+use office::{Office, leases};
+
+// A layer with this rule objects where a holder that has `limit` leases would get one more.
+#[derive(Clone, Copy, PartialEq, Eq, Debug, Drop)]
+pub struct Quota {
+    pub limit: u16,
+}
+
+impl<O: Office> Rule<O> for Quota {
+    ghost objects = { λ quota. quota_objects quota.limit };
+
+    fn objection(&self, below: &O, request: Request) -> Option<Reason> {
+        let (Request::Open { holder, .. }
+        | Request::Delegate { holder, .. }
+        | Request::Assign { holder, .. }) = request;
+        (held_by(below, holder) >= usize::from(self.limit)).then_some(Reason::OverQuota)
+    }
+}
+
+// How many live leases a holder has.
+fn held_by<O: Office>(office: &O, holder: u16) -> usize
+    ensures { result ≡ held (O.Office.meaning office.now).core.roll holder }
+{
+    leases(office)
+        .filter(|lease| lease.holder == holder)
+        .count()
 }

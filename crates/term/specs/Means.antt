@@ -1,20 +1,12 @@
--- What the layer Term stands for.
+-- What the rule Term objects to.
 use Rattle.std.specs.Prelude.{ℕ, ◌+◌, List, None, Option, nat_lt}
 use Rattle.lending.specs.declared.lease.Lease.{Lease}
-use Rattle.lending.specs.Office.{State, Request}
+use Rattle.lending.specs.Office.{Request}
 use Rattle.lending.specs.Office.Request.{opening, delegating, assigning}
-use Rattle.lending.specs.Layers.{number_if, layered}
-use Rattle.term.specs.declared.term.Term.{Term}
+use Rattle.lending.specs.Layers.{number_if}
 
 -- 22: a lease is delegated until more than so many days after today
 abbrev pub term_objects : {S : Type 0} → ℕ → List (Lease S) → ℕ → Request → Option ℕ
 term_objects days roll today (opening resource holder) = None
 term_objects days roll today (delegating lender holder due) = number_if (nat_lt (today + days) due) 22
 term_objects days roll today (assigning lease holder) = None
-
-module _ {O S : Type 0} where
-  abbrev pub term_means : (O → State S) → Term O → State S
-  term_means means q = layered (term_objects q.days) (means q.below)
-
-  abbrev pub term_rows : (O → List (Lease S)) → Term O → List (Lease S)
-  term_rows rows q = rows q.below

@@ -1,7 +1,6 @@
-// The layer Term: an office over any office that delegates for a number of days at most.
+// The rule Term: a lease is delegated for so many days at most.
 #![tactic(auto)]
 
-mod calls;
 mod term;
 
 pub use term::Term;

@@ -1,5 +1,6 @@
 use chain::Chain;
 use desk::{assign, delegate, lease_at, merge, open, set_day, yield_lease};
+use layer::Layer;
 use ledger::Ledger;
 use lending::{Lease, Refusal};
 use office::Office;
@@ -59,7 +60,9 @@ fn stands<S: Printed, O: Office<Kind = S>>(
 
 // Ten calls to a pile of three layers: the worked book, with yields where it has a day and a recall.
 fn ten_calls<S: Printed, O: Office<Kind = S> + Drop>(rt: &impl Abort, below: O) {
-    let mut office = Quota::new(Term::new(Chain::new(below, 2), 30), 64);
+    let chain = Layer::new(below, Chain { limit: 2 });
+    let term = Layer::new(chain, Term { days: 30 });
+    let mut office = Layer::new(term, Quota { limit: 64 });
     assert_eq!(rt; issued(open(&mut office, 7, 1)), 1);
     assert_eq!(rt; issued(delegate(&mut office, 1, 2, 20)), 2);
     assert_eq!(rt; issued(delegate(&mut office, 2, 3, 10)), 3);

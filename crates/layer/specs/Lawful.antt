@@ -1,0 +1,32 @@
+-- A layer over a lawful office is lawful.
+-- A proof, which nobody need read: it stands in specs/ because the implementation names it, and no contract cites it.
+use Rattle.std.specs.Prelude.{◌≡◌, ℕ, ◌≤◌, List, Some, None, Option}
+use Rattle.std.proofs.Common.{refl, ap, arith}
+use Rattle.lending.specs.declared.lease.Lease.{Lease}
+use Rattle.lending.specs.Office.{Refusal, State, Request}
+use Rattle.lending.specs.Layers.{up, own_or_raised, layered}
+use Rattle.office.specs.Lawful.{Lawful}
+use Rattle.layer.specs.declared.layer.Layer.{Layer}
+
+abbrev level_of : Option Refusal → ℕ
+level_of None = 0
+level_of (Some f) = f.level
+
+below_depth : (depth : ℕ) (mine : Option ℕ) (below : Option Refusal) (r : Refusal) → ((f : Refusal) → below ≡ Some f → up f.level ≤ depth) → own_or_raised mine below ≡ Some r → up r.level ≤ up depth
+below_depth depth (Some n) below r h e = let k : 0 ≡ r.level = ap level_of e in omega arith
+below_depth depth None None r h e = cc
+below_depth depth None (Some f) r h e = let k : up f.level ≡ r.level = ap level_of e in let l = h f refl in omega arith
+
+pub layer_lawful : {O R S : Type 0} (means : O → State S) (rows : O → List (Lease S)) (objects : R → List (Lease S) → ℕ → Request → Option ℕ) → ((o : O) → Lawful (means o) (rows o)) → (layer : Layer O R) → Lawful (layered (objects layer.rule) (means layer.below)) (rows layer.below)
+layer_lawful means rows objects lawful layer =
+    let s = means layer.below in
+    let l = lawful layer.below in
+    record {
+      capacity = l.capacity;
+      fits = l.fits;
+      stands = l.stands;
+      numbers = l.numbers;
+      days = l.days;
+      orderly = l.orderly;
+      levels = λ q r e. below_depth s.core.depth (objects layer.rule s.core.roll s.core.today q) (s.objections q) r (l.levels q) e;
+    }

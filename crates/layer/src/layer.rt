@@ -1,0 +1,103 @@
+ghost use Rattle.std.specs.Prelude.{◌≡◌, MatchResult};
+ghost use Rattle.lending.specs.Office.{SetUp};
+ghost use Rattle.lending.specs.Layers.{layered};
+ghost use Rattle.lending.specs.Told.{number_of};
+ghost use Rattle.layer.specs.Asked.{requested};
+ghost use Rattle.layer.specs.Lawful.{layer_lawful};
+
+use crate::rule::{Request, Rule};
+use lending::{Lease, Refusal};
+use office::Office;
+
+// An office over another, which objects by a rule.
+#[derive(Drop)]
+pub struct Layer<O, R> {
+    below: O,
+    rule: R,
+}
+
+impl<O: Office, R: Rule<O>> Layer<O, R> {
+    // The layer over an office, with its rule.
+    pub fn new(below: O, rule: R) -> Layer<O, R>
+        ensures stands { ⟦<Layer<O, R> as Office>⟧.meaning result ≡ layered (R.Rule.objects rule) (O.Office.meaning below) }
+        ensures set_up { SetUp (O.Office.meaning below) → SetUp (⟦<Layer<O, R> as Office>⟧.meaning result) }
+        ensures rows { ⟦<Layer<O, R> as Office>⟧.rows result ≡ O.Office.rows below }
+    {
+        Layer { below, rule }
+    }
+
+    // Refuses what the rule objects to.
+    fn allow(&self, request: Request) -> Result<(), Refusal>
+        ensures { let s = O.Office.meaning self.now.below in let mine = R.Rule.objects self.now.rule s.core.roll s.core.today (requested request) in MatchResult result (λ x. mine ≡ None) (λ refusal. (mine ≡ Some (number_of refusal.reason)) × (refusal.level ≡ 0)) }
+    {
+        match self.rule.objection(&self.below, request) {
+            Some(reason) => Err(reason.into()),
+            None => Ok(()),
+        }
+    }
+}
+
+impl<O: Office, R: Rule<O>> Office for Layer<O, R> {
+    type Kind = O::Kind;
+
+    ghost meaning = { λ layer. layered (R.Rule.objects layer.rule) (O.Office.meaning layer.below) };
+
+    ghost rows = { λ layer. O.Office.rows layer.below };
+
+    ghost lawful = { layer_lawful O.Office.meaning O.Office.rows R.Rule.objects O.Office.lawful };
+
+    fn count(&self) -> usize {
+        self.below.count()
+    }
+
+    fn issued(&self) -> u16 {
+        self.below.issued()
+    }
+
+    fn today(&self) -> u16 {
+        self.below.today()
+    }
+
+    fn lease_at(&self, position: usize) -> Result<Lease<O::Kind>, Refusal> {
+        self.below.lease_at(position).map_err(Refusal::raised)
+    }
+
+    fn lease(&self, lease: u16) -> Result<Lease<O::Kind>, Refusal> {
+        self.below.lease(lease).map_err(Refusal::raised)
+    }
+
+    #[tactic(auto, using(crate::proofs::Passing::opened))]
+    fn open(&mut self, resource: u16, holder: u16) -> Result<u16, Refusal> {
+        self.allow(Request::Open { resource, holder })?;
+        self.below.open(resource, holder).map_err(Refusal::raised)
+    }
+
+    #[tactic(auto, using(crate::proofs::Passing::delegated))]
+    fn delegate(&mut self, lender: u16, holder: u16, due: u16) -> Result<u16, Refusal> {
+        self.allow(Request::Delegate {
+            lender,
+            holder,
+            due,
+        })?;
+        self.below
+            .delegate(lender, holder, due)
+            .map_err(Refusal::raised)
+    }
+
+    fn yield_lease(&mut self, lease: u16) -> Result<(), Refusal> {
+        self.below.yield_lease(lease).map_err(Refusal::raised)
+    }
+
+    fn merge(&mut self, a: u16, b: u16) -> Result<(), Refusal> {
+        self.below.merge(a, b).map_err(Refusal::raised)
+    }
+
+    fn assign(&mut self, lease: u16, holder: u16) -> Result<(), Refusal> {
+        self.allow(Request::Assign { lease, holder })?;
+        self.below.assign(lease, holder).map_err(Refusal::raised)
+    }
+
+    fn set_day(&mut self, day: u16) -> Result<(), Refusal> {
+        self.below.set_day(day).map_err(Refusal::raised)
+    }
+}

@@ -1,0 +1,27 @@
+ghost use Rattle.std.specs.Prelude.{◌≡◌, ℕ, List, Option};
+ghost use Rattle.std.specs.Option.{option_map};
+ghost use Rattle.lending.specs.declared.lease.Lease.{Lease};
+ghost use Rattle.lending.specs.Office.{Request};
+ghost use Rattle.lending.specs.Told.{number_of};
+ghost use Rattle.layer.specs.Asked.{requested};
+
+use lending::Reason;
+use office::Office;
+
+// What a layer may object to.
+#[derive(Clone, Copy)]
+pub enum Request {
+    Open { resource: u16, holder: u16 },
+    Delegate { lender: u16, holder: u16, due: u16 },
+    Assign { lease: u16, holder: u16 },
+}
+
+// What a layer adds to an office: its own objections.
+pub trait Rule<O: Office> {
+    // What it objects to, by the roll and today of the office below: the number of a reason, or none.
+    ghost objects: { Self → List (Lease O.Kind) → ℕ → Request → Option ℕ };
+
+    // The reason why it objects to a request, if it does.
+    fn objection(&self, below: &O, request: Request) -> Option<Reason>
+        ensures { option_map number_of result ≡ objects self.now (O.Office.meaning below.now).core.roll (O.Office.meaning below.now).core.today (requested request) };
+}
