@@ -54,97 +54,79 @@ impl<'a, S: Share> Office for Ledger<'a, S> {
     }
 
     fn lease_at(&self, position: usize) -> Result<Lease<S>, Refusal> {
-        match self.at(position) {
-            Some(lease) => Ok(lease),
-            None => Err(Refusal::here(Reason::NoSuchPosition)),
-        }
+        Ok(self.at(position).ok_or(Reason::NoSuchPosition)?)
     }
 
     fn lease(&self, lease: u16) -> Result<Lease<S>, Refusal> {
-        match self.find(lease) {
-            Some(lease) => Ok(lease),
-            None => Err(Refusal::here(Reason::NotLive)),
-        }
+        Ok(self.find(lease).ok_or(Reason::NotLive)?)
     }
 
     fn open(&mut self, resource: u16, holder: u16) -> Result<u16, Refusal> {
         if !in_range(resource) {
-            return Err(Refusal::here(Reason::ResourceOutOfRange));
+            return Err(Reason::ResourceOutOfRange.into());
         }
         if !in_range(holder) {
-            return Err(Refusal::here(Reason::HolderOutOfRange));
+            return Err(Reason::HolderOutOfRange.into());
         }
         if self.any(Test::Resource(resource)) {
-            return Err(Refusal::here(Reason::ResourceIsOpen));
+            return Err(Reason::ResourceIsOpen.into());
         }
         if self.issued == MOST_NUMBERS {
-            return Err(Refusal::here(Reason::NumbersUsedUp));
+            return Err(Reason::NumbersUsedUp.into());
         }
         if self.full() {
-            return Err(Refusal::here(Reason::NoRowFree));
+            return Err(Reason::NoRowFree.into());
         }
         Ok(self.first(resource, holder))
     }
 
     fn delegate(&mut self, lender: u16, holder: u16, due: u16) -> Result<u16, Refusal> {
-        let Some(lease) = self.find(lender) else {
-            return Err(Refusal::here(Reason::NotLive));
-        };
+        let lease = self.find(lender).ok_or(Reason::NotLive)?;
         if !in_range(holder) {
-            return Err(Refusal::here(Reason::HolderOutOfRange));
+            return Err(Reason::HolderOutOfRange.into());
         }
         if bad_due(self.today, lease.due, due) {
-            return Err(Refusal::here(Reason::DueDay));
+            return Err(Reason::DueDay.into());
         }
-        let Some(halves) = lease.share.halve() else {
-            return Err(Refusal::here(Reason::DoesNotHalve));
-        };
+        let (kept, lent) = lease.share.halve().ok_or(Reason::DoesNotHalve)?;
         if self.issued == MOST_NUMBERS {
-            return Err(Refusal::here(Reason::NumbersUsedUp));
+            return Err(Reason::NumbersUsedUp.into());
         }
         if self.full() {
-            return Err(Refusal::here(Reason::NoRowFree));
+            return Err(Reason::NoRowFree.into());
         }
-        Ok(self.lend(lender, lease, holder, due, halves.0, halves.1))
+        Ok(self.lend(lender, lease, holder, due, kept, lent))
     }
 
     fn yield_lease(&mut self, lease: u16) -> Result<(), Refusal> {
-        let Some(closed) = self.find(lease) else {
-            return Err(Refusal::here(Reason::NotLive));
-        };
+        let closed = self.find(lease).ok_or(Reason::NotLive)?;
         if self.lends(lease) {
-            return Err(Refusal::here(Reason::LeaseUnderIt));
+            return Err(Reason::LeaseUnderIt.into());
         }
         self.take_back(lease, closed);
         Ok(())
     }
 
     fn merge(&mut self, a: u16, b: u16) -> Result<(), Refusal> {
-        let Some(kept) = self.find(a) else {
-            return Err(Refusal::here(Reason::NotLive));
-        };
-        let Some(closed) = self.find(b) else {
-            return Err(Refusal::here(Reason::NotLive));
-        };
+        let kept = self.find(a).ok_or(Reason::NotLive)?;
+        let closed = self.find(b).ok_or(Reason::NotLive)?;
         if a >= b {
-            return Err(Refusal::here(Reason::WrongOrder));
+            return Err(Reason::WrongOrder.into());
         }
         if unlike(kept, closed) {
-            return Err(Refusal::here(Reason::NotAlike));
+            return Err(Reason::NotAlike.into());
         }
         self.unite(a, kept, b, closed);
         Ok(())
     }
 
     fn assign(&mut self, lease: u16, holder: u16) -> Result<(), Refusal> {
-        let Some(assigned) = self.find(lease) else {
-            return Err(Refusal::here(Reason::NotLive));
-        };
+        let assigned = self.find(lease).ok_or(Reason::NotLive)?;
         if !in_range(holder) {
-            return Err(Refusal::here(Reason::HolderOutOfRange));
+            return Err(Reason::HolderOutOfRange.into());
         }
         if assigned.holder == holder {
-            return Err(Refusal::here(Reason::SameHolder));
+            return Err(Reason::SameHolder.into());
         }
         self.hand_over(lease, holder);
         Ok(())
@@ -152,10 +134,10 @@ impl<'a, S: Share> Office for Ledger<'a, S> {
 
     fn set_day(&mut self, day: u16) -> Result<(), Refusal> {
         if day < self.today || day > LAST_DAY {
-            return Err(Refusal::here(Reason::DayOutOfRange));
+            return Err(Reason::DayOutOfRange.into());
         }
         if self.any(Test::DueBy(day)) {
-            return Err(Refusal::here(Reason::LeaseFallsDue));
+            return Err(Reason::LeaseFallsDue.into());
         }
         self.today = day;
         Ok(())
