@@ -1,63 +1,85 @@
--- What a ledger's calls need of its table.
-use Rattle.std.proofs.Common.{◌≡◌, ℕ, zero, suc, ◌<◌, ◌≤◌, false, eqb, List, [], ◌∷◌, length, get_or, drop, sym, refl, ap, ◌∙◌, subst, le_of_suc-le-suc, arith, length-take}
-use mathlib.Core.Logic.{∥∥₁_elim}
-use mathlib.Core.List.{Memᴰ}
-use mathlib.Core.Option as maybe
-use native.Mathlib.Bridge.{le_prop}
-use lib.ListN.{get_elem?}
-use Rattle.std.proofs.lemmas.Bool.{eqb-false, ne_eqb}
+-- What a write to a ledger's rows does to what it stands for.
+use Rattle.std.proofs.Common.{◌≡◌, ℕ, ◌+◌, ◌<◌, ◌≤◌, min, false, not, eqb, Some, List, [], ◌∷◌, ◌++◌, length, take, drop, set, sym, refl, ap, ◌∙◌, arith, length-take, length-set, drop-set-lt}
+use lib.Seq.{take-set-lt}
+use Rattle.std.proofs.lemmas.Bool.{eqb-false}
+use Rattle.std.proofs.lemmas.List.{take_more_set}
 use Rattle.lending.specs.declared.lease.Lease.{Lease}
+use Rattle.lending.specs.Limits.{most_rows}
 use Rattle.lending.specs.Office.{Core}
 use Rattle.lending.specs.Orderly.{Orderly}
-use Rattle.lending.specs.Roll.{Rising, lends}
-use Rattle.lending.proofs.Order.{orderly_rises}
+use Rattle.lending.specs.Roll.{Rising, find, change, close, with_share}
+use Rattle.lending.proofs.Rolls.{rising_keep, find_in, in_find, close_mem}
+use Rattle.lending.proofs.Order.{Stays, orderly_rises, orderly_so, orderly_change}
+use Rattle.office.specs.Lawful.{unused}
 use Rattle.ledger.specs.declared.ledger.Ledger.{Ledger}
-use Rattle.ledger.specs.declared.ledger.Table.{Table}
-use Rattle.ledger.specs.Rows.{Placed}
-use Rattle.ledger.proofs.Walks.{some_after}
-use Rattle.ledger.specs.Tables.{roll_of, room, Tidy, Becomes}
+use Rattle.ledger.specs.Rows.{Found}
+use Rattle.ledger.specs.Means.{means, Stands}
+use Rattle.ledger.proofs.Places.{change_found}
 
 module _ {S : Type 0} where
-  pub tidy : (l : Ledger S) → Tidy l.table
-  tidy l = record { fits = l.fits; rises = orderly_rises (roll_of l.table) l.issued l.orderly }
+  same_core : (xs ys : List (Lease S)) (i d c e : ℕ) → xs ≡ ys → c ≡ e → ◌≡◌ {A = Core S} (record { roll = xs; issued = i; today = d; capacity = c; depth = 0 }) (record { roll = ys; issued = i; today = d; capacity = e; depth = 0 })
+  same_core xs ys i d c e p q = ap (λ (r : List (Lease S)). record { roll = r; issued = i; today = d; capacity = c; depth = 0 }) p ∙ ap (λ (r : ℕ). record { roll = ys; issued = i; today = d; capacity = r; depth = 0 }) q
 
-  pub used : (t : Table S) → t.count ≤ room t → length (roll_of t) ≡ t.count
-  used t h = simp length-take (omega arith)
+  -- a state with another roll
+  abbrev pub over : (List (Lease S) → List (Lease S)) → Core S → Core S
+  over h k = record { roll = h k.roll; issued = k.issued; today = k.today; capacity = k.capacity; depth = k.depth }
 
-  pub not_full : (t : Table S) → t.count ≤ room t → eqb (length (roll_of t)) (room t) ≡ false → t.count < room t
-  not_full t h e = let u = used t h in let n = eqb-false (length (roll_of t)) (room t) e in omega arith
+  -- one change after another
+  pub after : {l₂ l₁ l₀ : Ledger S} {k : Core S} (h : Core S → Core S) → Stands l₂ l₁ (h (means l₁).core) → Stands l₁ l₀ k → Stands l₂ l₀ (h k)
+  after h a b = record { core = a.core ∙ ap h b.core; rest = a.rest ∙ b.rest }
 
-  -- a table that has become another with as many in its roll
-  pub still_room : (t was : Table S) (roll : List (Lease S)) → Becomes t was roll → length roll ≡ length (roll_of was) → was.count ≤ room was → was.count < room was → t.count < room t
-  still_room t was roll n e h l = let u = used t n.fits in let v = used was h in let w = ap length n.holds in let s = n.space in omega arith
+  -- a ledger whose rows became another list of as many
+  pub stands : (l was : Ledger S) (roll : List (Lease S)) → take l.count l.rows.now ≡ roll → length l.rows.now ≡ length was.rows.now → unused l.rows.now ≡ unused was.rows.now → Stands l was (record { roll = roll; issued = l.issued; today = l.today; capacity = min most_rows (length was.rows.now); depth = 0 })
+  stands l was roll holds len rest = record { core = same_core (take l.count l.rows.now) roll l.issued l.today (min most_rows (length l.rows.now)) (min most_rows (length was.rows.now)) holds (ap (min most_rows) len); rest = rest }
 
-  pub tidy_after : (t was : Table S) (roll : List (Lease S)) → Becomes t was roll → Rising 0 roll → Tidy t
-  tidy_after t was roll n r = record { fits = n.fits; rises = subst (λ (xs : List (Lease S)). Rising 0 xs) (sym n.holds) r }
+  module _ (l : Ledger S) where
+    pub rises : Rising 0 (take l.count l.rows.now)
+    rises = orderly_rises (take l.count l.rows.now) l.issued l.orderly
 
-module _ {A : Type 0} where
-  pub at_past : (xs : List A) (i : ℕ) → length xs ≤ i → get_elem? xs i ≡ maybe.none
-  at_past [] i h = refl
-  at_past (x ∷ xs) zero h = absurd (omega arith)
-  at_past (x ∷ xs) (suc i) h = at_past xs i (le_of_suc-le-suc h)
+    pub used : length (take l.count l.rows.now) ≡ l.count
+    used = simp length-take (let h = l.fits in omega arith)
 
-  pub at_within : (xs : List A) (i : ℕ) (x : A) → i < length xs → x ≡ get_or xs i x → get_elem? xs i ≡ maybe.some x
-  at_within [] i x h e = absurd (omega arith)
-  at_within (y ∷ ys) zero x h e = ap maybe.some (sym e)
-  at_within (y ∷ ys) (suc i) x h e = at_within ys i x (le_of_suc-le-suc h) e
+    pub not_full : eqb (length (take l.count l.rows.now)) (min most_rows (length l.rows.now)) ≡ false → l.count < min most_rows (length l.rows.now)
+    not_full e = let h = l.fits in let u = used in let n = eqb-false (length (take l.count l.rows.now)) (min most_rows (length l.rows.now)) e in omega arith
 
-module _ {S : Type 0} where
-  -- cores with the same roll and capacity
-  pub same_core : (xs ys : List (Lease S)) (i d c e k : ℕ) → xs ≡ ys → c ≡ e → ◌≡◌ {A = Core S} (record { roll = xs; issued = i; today = d; capacity = c; depth = k }) (record { roll = ys; issued = i; today = d; capacity = e; depth = k })
-  same_core xs ys i d c e k p q = ap (λ (r : List (Lease S)). record { roll = r; issued = i; today = d; capacity = c; depth = k }) p ∙ ap (λ (r : ℕ). record { roll = ys; issued = i; today = d; capacity = r; depth = k }) q
+    -- a lease that is found is written over, and keeps all but its holder or share
+    pub rewritten : (n : ℕ) (x : Lease S) (f : Lease S → Lease S) → Stays f → find (take l.count l.rows.now) n ≡ Some x → ∥ Orderly (change n (λ o. f x) (take l.count l.rows.now)) l.issued ∥₁
+    rewritten n x f s e =
+        let roll = take l.count l.rows.now in
+        orderly_so roll (change n f roll) _ l.issued l.issued l.orderly (change_found n 0 roll x f rises e) (orderly_change n f s roll l.issued)
 
-  mem_at : (xs : List (Lease S)) (j : ℕ) (d : Lease S) → j < length xs → Memᴰ (get_or xs j d) xs
-  mem_at [] j d m = absurd (omega arith)
-  mem_at (x ∷ xs) zero d m = Memᴰ.head refl
-  mem_at (x ∷ xs) (suc j) d m = Memᴰ.tail (mem_at xs j d (le_of_suc-le-suc m))
+    pub rewrote : (now : Ledger S) (n : ℕ) (x : Lease S) (f : Lease S → Lease S) → find (take l.count l.rows.now) n ≡ Some x → (y : Lease S) → y ≡ f x → y.number ≡ n → Stands now l (over (change y.number (λ o. y)) (means l).core) → Stands now l (over (change n f) (means l).core)
+    rewrote now n x f e y is named s =
+        let roll = take l.count l.rows.now in
+        record {
+          core = s.core ∙ ap (λ (r : List (Lease S)). over (λ o. r) (means l).core) (ap (λ m. change m (λ o. y) roll) named ∙ ap (λ (z : Lease S). change n (λ o. z) roll) is ∙ change_found n 0 roll x f rises e);
+          rest = s.rest;
+        }
 
-  -- a lease that another lends stands after it
-  pub lends_after : (n k : ℕ) (roll : List (Lease S)) (issued : ℕ) → ∥ Orderly roll issued ∥₁ → Placed n roll k → lends (drop k roll) n ≡ lends roll n
-  lends_after n k roll issued o p = some_after (λ l. eqb l.lender n) roll k (λ j d h m. ne_eqb (get_or roll j d).lender n (λ e. let a = p.lower j d h in let b = lower_at j d m in omega arith))
-    where
-      lower_at : (j : ℕ) (d : Lease S) → j < length roll → (get_or roll j d).lender < (get_or roll j d).number
-      lower_at j d m = ∥∥₁_elim o (λ x y. le_prop x y) (λ q. q.lower (get_or roll j d) (mem_at roll j d m))
+    -- a lease is written at a place of the roll
+    module _ (n k : ℕ) (x : Lease S) (found : Found n (take l.count l.rows.now) k) where
+      pub row_length : length (set l.rows.now k x) ≡ length l.rows.now
+      row_length = simp length-set
+
+      pub row_roll : take l.count (set l.rows.now k x) ≡ change n (λ o. x) (take l.count l.rows.now)
+      row_roll = let h = found.within in let u = used in take-set-lt l.count l.rows.now k x (omega arith) ∙ sym (found.changes (λ o. x) x)
+
+      pub row_rest : unused (set l.rows.now k x) ≡ unused l.rows.now
+      row_rest = let h = found.within in let u = used in let f = l.fits in drop-set-lt 1024 l.rows.now k x (omega arith)
+
+  -- where the roll stays, a change that leaves it as it is
+  pub same_over : (l : Ledger S) (h : List (Lease S) → List (Lease S)) → take l.count l.rows.now ≡ h (take l.count l.rows.now) → Stands l l (over h (means l).core)
+  same_over l h e = record { core = ap (λ (r : List (Lease S)). over (λ o. r) (means l).core) e; rest = refl }
+
+  -- another lease is still found where one was closed
+  pub still_found : (l now : Ledger S) (x : Lease S) (n : ℕ) → find (take l.count l.rows.now) x.number ≡ Some x → (x.number ≡ n → ⊥) → Stands now l (over (close n) (means l).core) → find (take now.count now.rows.now) x.number ≡ Some x
+  still_found l now x n e other s =
+      let roll = take l.count l.rows.now in
+      ap (λ (k : Core S). find k.roll x.number) s.core ∙ in_find 0 (close n roll) (rising_keep (λ o. not (eqb o.number n)) 0 roll (rises l)) x (close_mem roll n x (find_in roll x.number x e).0 other)
+
+  -- where b was closed, and then a's share became v
+  pub joined : (l one two : Ledger S) (a b : Lease S) (u v : S) → find (take l.count l.rows.now) a.number ≡ Some a → a.number < b.number → u ≡ v → Stands one l (over (close b.number) (means l).core) → Stands two one (over (change a.number (λ o. with_share u a)) (means one).core) → Stands two l (over (change a.number (with_share v)) (over (close b.number) (means l).core))
+  joined l one two a b u v found less same first second =
+      after (over (change a.number (with_share v)))
+      (rewrote one two a.number a (with_share v) (still_found l one a b.number found (omega arith) first) (with_share u a) (ap (λ s. with_share s a) same) refl second)
+      first

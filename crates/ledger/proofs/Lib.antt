@@ -1,4 +1,5 @@
+mod Fronts
 mod Gaps
-mod Walks
-mod Places
 mod Ledgers
+mod Places
+mod Walks

@@ -1,11 +1,8 @@
 // The calls of a ledger: the numbered checks in their order, and then what is granted.
-ghost use Rattle.std.specs.Prelude.{◌≡◌, ◌||◌, nat_le, nat_lt};
+ghost use Rattle.std.specs.Prelude.{◌≡◌};
 ghost use Rattle.lending.specs.Limits.{within_range};
 ghost use Rattle.lending.specs.Calls.{unlike};
-ghost use Rattle.ledger.specs.Lawful.{ledger_lawful};
-ghost use Rattle.ledger.specs.Means.{means, rows_in};
 
-use super::super::super::Test;
 use crate::ledger::Ledger;
 use lending::{HIGHEST_NAME, LAST_DAY, Lease, MOST_NUMBERS, Reason, Refusal};
 use office::Office;
@@ -18,13 +15,6 @@ fn in_range(name: u16) -> bool
     1 <= name && name <= HIGHEST_NAME
 }
 
-// Whether a due day is not after today, or is after the lender's or the last day.
-fn bad_due(today: u16, lenders: u16, due: u16) -> bool
-    ensures { result ≡ (nat_le due today || (nat_lt lenders due || nat_lt 9999 due)) }
-{
-    due <= today || due > lenders || due > LAST_DAY
-}
-
 // Whether the lenders differ or are the house, or the holders or the due days differ.
 fn unlike<S: Copy>(a: Lease<S>, b: Lease<S>) -> bool
     ensures { result ≡ unlike a b }
@@ -32,7 +22,22 @@ fn unlike<S: Copy>(a: Lease<S>, b: Lease<S>) -> bool
     a.lender != b.lender || a.lender == 0 || a.holder != b.holder || a.due != b.due
 }
 
+impl<'a, S: Share> Ledger<'a, S> {
+    ghost use Rattle.lending.specs.Calls.{bad_due_day};
+    ghost use Rattle.ledger.specs.Means.{means};
+
+    // Whether a due day is not after today, or is after the lender's or the last day.
+    fn bad_due(&self, lender: Lease<S>, due: u16) -> bool
+        ensures { result ≡ bad_due_day (means self.now) lender due }
+    {
+        due <= self.today || due > lender.due || due > LAST_DAY
+    }
+}
+
 impl<'a, S: Share> Office for Ledger<'a, S> {
+    ghost use Rattle.ledger.specs.Lawful.{ledger_lawful};
+    ghost use Rattle.ledger.specs.Means.{means, rows_in};
+
     type Kind = S;
 
     ghost meaning = { means };
@@ -42,7 +47,7 @@ impl<'a, S: Share> Office for Ledger<'a, S> {
     ghost lawful = { ledger_lawful };
 
     fn count(&self) -> usize {
-        self.table.count
+        self.count
     }
 
     fn issued(&self) -> u16 {
@@ -54,11 +59,11 @@ impl<'a, S: Share> Office for Ledger<'a, S> {
     }
 
     fn lease_at(&self, position: usize) -> Result<Lease<S>, Refusal> {
-        Ok(self.at(position).ok_or(Reason::NoSuchPosition)?)
+        self.at(position).ok_or(Reason::NoSuchPosition.into())
     }
 
     fn lease(&self, lease: u16) -> Result<Lease<S>, Refusal> {
-        Ok(self.find(lease).ok_or(Reason::NotLive)?)
+        self.find(lease).ok_or(Reason::NotLive.into())
     }
 
     fn open(&mut self, resource: u16, holder: u16) -> Result<u16, Refusal> {
@@ -68,7 +73,7 @@ impl<'a, S: Share> Office for Ledger<'a, S> {
         if !in_range(holder) {
             return Err(Reason::HolderOutOfRange.into());
         }
-        if self.any(Test::Resource(resource)) {
+        if self.is_open(resource) {
             return Err(Reason::ResourceIsOpen.into());
         }
         if self.issued == MOST_NUMBERS {
@@ -85,7 +90,7 @@ impl<'a, S: Share> Office for Ledger<'a, S> {
         if !in_range(holder) {
             return Err(Reason::HolderOutOfRange.into());
         }
-        if bad_due(self.today, lease.due, due) {
+        if self.bad_due(lease, due) {
             return Err(Reason::DueDay.into());
         }
         let (kept, lent) = lease.share.halve().ok_or(Reason::DoesNotHalve)?;
@@ -95,7 +100,7 @@ impl<'a, S: Share> Office for Ledger<'a, S> {
         if self.full() {
             return Err(Reason::NoRowFree.into());
         }
-        Ok(self.lend(lender, lease, holder, due, kept, lent))
+        Ok(self.lend(lease, holder, due, kept, lent))
     }
 
     fn yield_lease(&mut self, lease: u16) -> Result<(), Refusal> {
@@ -103,7 +108,7 @@ impl<'a, S: Share> Office for Ledger<'a, S> {
         if self.lends(lease) {
             return Err(Reason::LeaseUnderIt.into());
         }
-        self.take_back(lease, closed);
+        self.take_back(closed);
         Ok(())
     }
 
@@ -116,7 +121,7 @@ impl<'a, S: Share> Office for Ledger<'a, S> {
         if unlike(kept, closed) {
             return Err(Reason::NotAlike.into());
         }
-        self.unite(a, kept, b, closed);
+        self.unite(kept, closed);
         Ok(())
     }
 
@@ -128,7 +133,7 @@ impl<'a, S: Share> Office for Ledger<'a, S> {
         if assigned.holder == holder {
             return Err(Reason::SameHolder.into());
         }
-        self.hand_over(lease, holder);
+        self.hand_over(assigned, holder);
         Ok(())
     }
 
@@ -136,7 +141,7 @@ impl<'a, S: Share> Office for Ledger<'a, S> {
         if day < self.today || day > LAST_DAY {
             return Err(Reason::DayOutOfRange.into());
         }
-        if self.any(Test::DueBy(day)) {
+        if self.falls_due(day) {
             return Err(Reason::LeaseFallsDue.into());
         }
         self.today = day;
