@@ -2,4 +2,5 @@ mod Fronts
 mod Gaps
 mod Ledgers
 mod Places
+mod Relends
 mod Walks

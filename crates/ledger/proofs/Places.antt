@@ -3,6 +3,8 @@ use Rattle.std.proofs.Common.{◌≡◌, ℕ, zero, suc, ◌<◌, ◌≤◌, Boo
 use mathlib.Core.List.{Memᴰ}
 use mathlib.Core.Option as maybe
 use lib.ListN.{get_elem?}
+use denote.Param.Members.{Mut}
+use Rattle.std.specs.Fn.{Called, ComputesKey}
 use Rattle.std.specs.Option.{option_copied}
 use Rattle.std.specs.List.Sorted.{IsSearchInRange, IsBinarySearchResult, IsNonDecreasingBy}
 use Rattle.std.specs.Ordering.{nat_cmp, ordering_index}
@@ -10,6 +12,7 @@ use Rattle.std.specs.Result.{result_ok}
 use Rattle.std.proofs.lemmas.Bool.{eqb-true, eq-eqb, ne_eqb, cases_lt, ltb-true, ltb-false}
 use Rattle.std.proofs.lemmas.Bool.Decides.{nat_tests}
 use Rattle.std.proofs.lemmas.Cmp.{ranked}
+use Rattle.std.proofs.lemmas.List.Sorted.{answers_always}
 use Rattle.lending.specs.declared.lease.Lease.{Lease}
 use Rattle.lending.specs.Roll.{Rising, find, change, close}
 use Rattle.lending.proofs.Rolls.{rising_above, not_found, change_absent, close_absent}
@@ -66,12 +69,16 @@ module _ {S : Type 0} where
       }
 
   -- a binary search finds the place of a number
-  pub searched : (n : ℕ) (xs : List (Lease S)) → Rising 0 xs → (r : Result ℕ ℕ) → IsSearchInRange r (length xs) → IsBinarySearchResult (λ l. nat_cmp l.number n) xs r → Looked n xs (result_ok r)
+  searched : (n : ℕ) (xs : List (Lease S)) → Rising 0 xs → (r : Result ℕ ℕ) → IsSearchInRange r (length xs) → IsBinarySearchResult (λ l. nat_cmp l.number n) xs r → Looked n xs (result_ok r)
   searched n xs r (Ok k) l equal = found_at n 0 k xs r l (λ d. ranked _ n _ (sym (equal d)))
   searched n xs r (Err k) l parted = let p = parted (comparisons_rise n xs r) in nowhere n xs (λ j d m e. ⊎_elim
       (λ (q : j < k). let a : (get_or xs j d).number < n = ranked _ n _ (sym (p.0 j d (omega arith) q)) in omega arith)
       (λ (q : k ≤ j). let a : n < (get_or xs j d).number = ranked _ n _ (sym (p.1 j d q m)) in omega arith)
       (cases_lt j k))
+
+  -- where the search was told the number of each lease by calls of a closure
+  pub searched_by : {F : Type 0} {g : Mut F (Bor (Lease S) × Unit {0}) ℕ} {f : F} (n : ℕ) (xs : List (Lease S)) → Rising 0 xs → (r : Result ℕ ℕ) → IsSearchInRange r (length xs) → ((key : Lease S → ℕ) → ComputesKey g key f → IsBinarySearchResult (λ l. nat_cmp (key l) n) xs r) → ((f : F) (a : Bor (Lease S) × Unit {0}) (k : ℕ) (f' : F) → Called g f a k f' → k ≡ a.0.now.number) → Looked n xs (result_ok r)
+  searched_by {g = g} {f = f} n xs rises r within at told = searched n xs rises r within (at (λ l. l.number) (answers_always g (λ a k. k ≡ a.0.now.number) f told))
 
   -- where the number is absent nothing changes
   pub stays : (n : ℕ) (f : Lease S → Lease S) (xs : List (Lease S)) → find xs n ≡ None → xs ≡ change n f xs

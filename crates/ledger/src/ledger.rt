@@ -26,6 +26,7 @@ pub struct Ledger<'a, S> {
 }
 
 // Has lease a lend what b lent.
+#[tactic(auto, using(crate::proofs::Relends::relend_hit, crate::proofs::Relends::relend_miss))]
 fn relend<S: Copy>(roll: &mut [Lease<S>], a: u16, b: u16)
     ensures { roll.new ≡ relend a b roll.old }
 {
