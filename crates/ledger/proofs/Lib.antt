@@ -3,4 +3,5 @@ mod Gaps
 mod Ledgers
 mod Places
 mod Relends
+mod Steps
 mod Walks

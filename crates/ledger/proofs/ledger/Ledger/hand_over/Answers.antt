@@ -1,6 +1,6 @@
 use Rattle.std.proofs.Common.{refl}
 use Rattle.lending.specs.Roll.{with_holder}
-use Rattle.ledger.proofs.Ledgers.{rewritten, rewrote}
+use Rattle.ledger.proofs.Steps.{rewritten, rewrote}
 use Rattle.ledger.proofs.ledger.Ledger.hand_over.Goals as goal
 
 pub rewrite-requires : goal.rewrite-requires

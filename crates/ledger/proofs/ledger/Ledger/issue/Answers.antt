@@ -1,4 +1,4 @@
-use Rattle.std.proofs.Common.{◌++◌, [], ◌∷◌, length, take, arith, length-set, drop-set-lt}
+use Rattle.std.proofs.Common.{◌++◌, [], ◌∷◌, take, arith, length-set, drop-set-lt}
 use Rattle.std.proofs.lemmas.List.{take_more_set}
 use Rattle.ledger.proofs.Ledgers.{stands, not_full}
 use Rattle.ledger.proofs.ledger.Ledger.issue.Goals as goal

@@ -1,10 +1,10 @@
-use Rattle.std.proofs.Common.{◌≡◌, ◌+◌, ◌≤◌, ◌||◌, leb, ltb, [], ◌∷◌, ◌++◌, take, sym, refl, subst, arith}
+use Rattle.std.proofs.Common.{◌+◌, ◌≤◌, ◌||◌, leb, ltb, [], ◌∷◌, ◌++◌, take, sym, refl, subst, arith}
 use Rattle.std.proofs.lemmas.Bool.{or_parts, ltb-false}
 use Rattle.lending.specs.Office.{Core}
 use Rattle.lending.specs.Orderly.{Orderly}
 use Rattle.lending.specs.Roll.{with_share}
 use Rattle.lending.proofs.Order.{share_stays, orderly_so, orderly_lent}
-use Rattle.ledger.proofs.Ledgers.{after, rewritten, rewrote}
+use Rattle.ledger.proofs.Steps.{after, rewritten, rewrote}
 use Rattle.ledger.proofs.ledger.Ledger.lend.Goals as goal
 
 pub rewrite-requires : goal.rewrite-requires

@@ -1,5 +1,4 @@
-use Rattle.std.proofs.Common.{◌≡◌, min, length, set, ap, refl, arith}
-use Rattle.lending.specs.Roll.{change}
+use Rattle.std.proofs.Common.{refl}
 use Rattle.ledger.proofs.Places.{stays}
 use Rattle.ledger.proofs.Ledgers.{stands, row_length, row_roll, row_rest}
 use Rattle.ledger.proofs.ledger.Ledger.rewrite.Goals as goal
