@@ -7,7 +7,7 @@ use Rattle.office.specs.Lawful.{unused}
 use Rattle.ledger.specs.declared.ledger.Ledger.{Ledger}
 
 module _ {S : Type 0} where
-  -- the first rows are the roll, and of the rows it uses the first 1,024, or all if fewer
+  -- the first rows are the roll, and a ledger uses the first 1,024 rows, or all if fewer
   abbrev pub means : Ledger S → State S
   means l = record {
     core = record {

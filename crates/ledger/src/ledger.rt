@@ -25,18 +25,6 @@ pub struct Ledger<'a, S> {
     ghost orderly: { ∥ Orderly (take count rows.now) issued ∥₁ },
 }
 
-// Has lease a lend what b lent.
-#[tactic(auto, using(crate::proofs::Relends::relend_hit, crate::proofs::Relends::relend_miss))]
-fn relend<S: Copy>(roll: &mut [Lease<S>], a: u16, b: u16)
-    ensures { roll.new ≡ relend a b roll.old }
-{
-    for lease in roll.iter_mut() {
-        if lease.lender == b {
-            lease.lender = a;
-        }
-    }
-}
-
 impl<'a, S: Share> Ledger<'a, S> {
     ghost use Rattle.std.specs.Prelude.{◌+◌, ◌<◌, ◌++◌, [], ◌∷◌, true, false, Some, IfSome};
     ghost use Rattle.lending.specs.Limits.{within_range};
@@ -131,16 +119,18 @@ impl<'a, S: Share> Ledger<'a, S> {
         self.count == self.rows.len().min(MOST_ROWS)
     }
 
-    // Issues the next number to a lease, which then stands last.
-    fn issue(&mut self, lease: Lease<S>)
+    // Issues the next number to a lease, which then stands last. Answers the number.
+    fn issue(&mut self, lease: Lease<S>) -> u16
         requires row { rows_full (means self.old) ≡ false }
         requires number { self.old.issued < last_number }
         requires orderly { ∥ Orderly ((means self.old).core.roll ++ (lease ∷ [])) (self.old.issued + 1) ∥₁ }
-        ensures { Stands self.new self.old (issue lease (means self.old)).core }
+        ensures number { result ≡ self.old.issued + 1 }
+        ensures stands { Stands self.new self.old (issue lease (means self.old)).core }
     {
         self.rows[self.count] = lease;
         self.count += 1;
         self.issued += 1;
+        self.issued
     }
 
     // Writes a lease over the live one with its number.
@@ -173,16 +163,14 @@ impl<'a, S: Share> Ledger<'a, S> {
         ensures number { result ≡ self.old.issued + 1 }
         ensures stands { Stands self.new self.old (issue (first_lease S.Share.kind (self.old.issued + 1) resource holder) (means self.old)).core }
     {
-        let number = self.issued + 1;
         self.issue(Lease {
-            number,
+            number: self.issued + 1,
             resource,
             holder,
             lender: 0,
             due: NEVER_DUE,
             share: S::whole(),
-        });
-        number
+        })
     }
 
     // Issues the next number to a lease of what this one lends, and leaves it what it keeps.
@@ -199,16 +187,14 @@ impl<'a, S: Share> Ledger<'a, S> {
             share: kept,
             ..lender
         });
-        let number = self.issued + 1;
         self.issue(Lease {
-            number,
+            number: self.issued + 1,
             resource: lender.resource,
             holder,
             lender: lender.number,
             due,
             share: lent,
-        });
-        number
+        })
     }
 
     // Closes a lease, and joins its share to its lender's.
@@ -244,5 +230,17 @@ impl<'a, S: Share> Ledger<'a, S> {
         ensures { Stands self.new self.old (with_roll (change lease.number (with_holder holder) (means self.old).core.roll) (means self.old)).core }
     {
         self.rewrite(Lease { holder, ..lease });
+    }
+}
+
+// Has lease a lend what b lent.
+#[tactic(auto, using(crate::proofs::Relends::relend_hit, crate::proofs::Relends::relend_miss))]
+fn relend<S: Copy>(roll: &mut [Lease<S>], a: u16, b: u16)
+    ensures { roll.new ≡ relend a b roll.old }
+{
+    for lease in roll.iter_mut() {
+        if lease.lender == b {
+            lease.lender = a;
+        }
     }
 }

@@ -3,8 +3,8 @@ use Rattle.std.proofs.lemmas.List.{take_more_set}
 use Rattle.ledger.proofs.Ledgers.{stands, not_full}
 use Rattle.ledger.proofs.ledger.Ledger.issue.Goals as goal
 
-pub returns : goal.returns
-returns g c =
+pub returns-clause-stands : goal.returns-clause-stands
+returns-clause-stands g c =
     let l = c.args.self.now in
     let lt = not_full l c.requires.row in
     stands _ l (take l.count l.rows.now ++ (c.args.lease ∷ []))

@@ -37,4 +37,4 @@ returns-clause-stands g c =
       capacity = k.capacity;
       depth = k.depth;
     } in
-    after add c.issue.ensures (rewrote l c.rewrite.new.self x.number x (with_share v) c.requires.live (with_share v x) refl refl c.rewrite.ensures)
+    after add c.issue.ensures.stands (rewrote l c.rewrite.new.self x.number x (with_share v) c.requires.live (with_share v x) refl refl c.rewrite.ensures)
