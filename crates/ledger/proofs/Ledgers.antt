@@ -1,63 +1,66 @@
--- What a ledger's calls need of its table.
-use Rattle.std.proofs.Common.{◌≡◌, ℕ, zero, suc, ◌<◌, ◌≤◌, false, eqb, List, [], ◌∷◌, length, get_or, drop, sym, refl, ap, ◌∙◌, subst, le_of_suc-le-suc, arith, length-take}
-use mathlib.Core.Logic.{∥∥₁_elim}
-use mathlib.Core.List.{Memᴰ}
-use mathlib.Core.Option as maybe
-use native.Mathlib.Bridge.{le_prop}
-use lib.ListN.{get_elem?}
-use Rattle.std.proofs.lemmas.Bool.{eqb-false, ne_eqb}
+-- What a write to a ledger's rows does to what it stands for.
+use Rattle.std.proofs.Common.{◌≡◌, ℕ, ◌+◌, ◌-◌, ◌<◌, ◌≤◌, min, false, eqb, List, length, take, drop, set, sym, ap, ◌∙◌, arith, length-take, take-take, length-set, drop-set-lt}
+use lib.Seq.{paste, take-set-lt}
+use Rattle.std.proofs.lemmas.Bool.{eqb-false}
 use Rattle.lending.specs.declared.lease.Lease.{Lease}
+use Rattle.lending.specs.Limits.{most_rows}
 use Rattle.lending.specs.Office.{Core}
 use Rattle.lending.specs.Orderly.{Orderly}
-use Rattle.lending.specs.Roll.{Rising, lends}
-use Rattle.lending.proofs.Order.{orderly_rises}
+use Rattle.lending.specs.Roll.{Rising, change, close}
+use Rattle.lending.proofs.Order.{orderly_rises, orderly_so, orderly_close}
+use Rattle.office.specs.Lawful.{unused}
 use Rattle.ledger.specs.declared.ledger.Ledger.{Ledger}
-use Rattle.ledger.specs.declared.ledger.Table.{Table}
-use Rattle.ledger.specs.Rows.{Placed}
-use Rattle.ledger.proofs.Walks.{some_after}
-use Rattle.ledger.specs.Tables.{roll_of, room, Tidy, Becomes}
+use Rattle.ledger.specs.Rows.{Found}
+use Rattle.ledger.specs.Means.{Stands}
+use Rattle.ledger.proofs.Fronts.{orderly_take}
+use Rattle.ledger.proofs.Gaps.{gap_roll, gap_rest}
 
 module _ {S : Type 0} where
-  pub tidy : (l : Ledger S) → Tidy l.table
-  tidy l = record { fits = l.fits; rises = orderly_rises (roll_of l.table) l.issued l.orderly }
+  same_core : (xs ys : List (Lease S)) (i d c e : ℕ) → xs ≡ ys → c ≡ e → ◌≡◌ {A = Core S} (record { roll = xs; issued = i; today = d; capacity = c; depth = 0 }) (record { roll = ys; issued = i; today = d; capacity = e; depth = 0 })
+  same_core xs ys i d c e p q = ap (λ (r : List (Lease S)). record { roll = r; issued = i; today = d; capacity = c; depth = 0 }) p ∙ ap (λ (r : ℕ). record { roll = ys; issued = i; today = d; capacity = r; depth = 0 }) q
 
-  pub used : (t : Table S) → t.count ≤ room t → length (roll_of t) ≡ t.count
-  used t h = simp length-take (omega arith)
+  -- a ledger whose rows became another list of as many
+  pub stands : (l was : Ledger S) (roll : List (Lease S)) → take l.count l.rows.now ≡ roll → length l.rows.now ≡ length was.rows.now → unused l.rows.now ≡ unused was.rows.now → Stands l was (record { roll = roll; issued = l.issued; today = l.today; capacity = min most_rows (length was.rows.now); depth = 0 })
+  stands l was roll holds len rest = record { core = same_core (take l.count l.rows.now) roll l.issued l.today (min most_rows (length l.rows.now)) (min most_rows (length was.rows.now)) holds (ap (min most_rows) len); rest = rest }
 
-  pub not_full : (t : Table S) → t.count ≤ room t → eqb (length (roll_of t)) (room t) ≡ false → t.count < room t
-  not_full t h e = let u = used t h in let n = eqb-false (length (roll_of t)) (room t) e in omega arith
+  module _ (l : Ledger S) where
+    pub rises : Rising 0 (take l.count l.rows.now)
+    rises = orderly_rises (take l.count l.rows.now) l.issued l.orderly
 
-  -- a table that has become another with as many in its roll
-  pub still_room : (t was : Table S) (roll : List (Lease S)) → Becomes t was roll → length roll ≡ length (roll_of was) → was.count ≤ room was → was.count < room was → t.count < room t
-  still_room t was roll n e h l = let u = used t n.fits in let v = used was h in let w = ap length n.holds in let s = n.space in omega arith
+    pub used : length (take l.count l.rows.now) ≡ l.count
+    used = simp length-take (let h = l.fits in omega arith)
 
-  pub tidy_after : (t was : Table S) (roll : List (Lease S)) → Becomes t was roll → Rising 0 roll → Tidy t
-  tidy_after t was roll n r = record { fits = n.fits; rises = subst (λ (xs : List (Lease S)). Rising 0 xs) (sym n.holds) r }
+    pub not_full : eqb (length (take l.count l.rows.now)) (min most_rows (length l.rows.now)) ≡ false → l.count < min most_rows (length l.rows.now)
+    not_full e = let h = l.fits in let u = used in let n = eqb-false (length (take l.count l.rows.now)) (min most_rows (length l.rows.now)) e in omega arith
 
-module _ {A : Type 0} where
-  pub at_past : (xs : List A) (i : ℕ) → length xs ≤ i → get_elem? xs i ≡ maybe.none
-  at_past [] i h = refl
-  at_past (x ∷ xs) zero h = absurd (omega arith)
-  at_past (x ∷ xs) (suc i) h = at_past xs i (le_of_suc-le-suc h)
+    -- a lease is written at a place of the roll
+    module _ (n k : ℕ) (x : Lease S) (found : Found n (take l.count l.rows.now) k) where
+      pub row_length : length (set l.rows.now k x) ≡ length l.rows.now
+      row_length = simp length-set
 
-  pub at_within : (xs : List A) (i : ℕ) (x : A) → i < length xs → x ≡ get_or xs i x → get_elem? xs i ≡ maybe.some x
-  at_within [] i x h e = absurd (omega arith)
-  at_within (y ∷ ys) zero x h e = ap maybe.some (sym e)
-  at_within (y ∷ ys) (suc i) x h e = at_within ys i x (le_of_suc-le-suc h) e
+      pub row_roll : take l.count (set l.rows.now k x) ≡ change n (λ o. x) (take l.count l.rows.now)
+      row_roll = let h = found.within in let u = used in take-set-lt l.count l.rows.now k x (omega arith) ∙ sym (found.changes (λ o. x) x)
 
-module _ {S : Type 0} where
-  -- cores with the same roll and capacity
-  pub same_core : (xs ys : List (Lease S)) (i d c e k : ℕ) → xs ≡ ys → c ≡ e → ◌≡◌ {A = Core S} (record { roll = xs; issued = i; today = d; capacity = c; depth = k }) (record { roll = ys; issued = i; today = d; capacity = e; depth = k })
-  same_core xs ys i d c e k p q = ap (λ (r : List (Lease S)). record { roll = r; issued = i; today = d; capacity = c; depth = k }) p ∙ ap (λ (r : ℕ). record { roll = ys; issued = i; today = d; capacity = r; depth = k }) q
+      pub row_rest : unused (set l.rows.now k x) ≡ unused l.rows.now
+      row_rest = let h = found.within in let u = used in let f = l.fits in drop-set-lt 1024 l.rows.now k x (omega arith)
 
-  mem_at : (xs : List (Lease S)) (j : ℕ) (d : Lease S) → j < length xs → Memᴰ (get_or xs j d) xs
-  mem_at [] j d m = absurd (omega arith)
-  mem_at (x ∷ xs) zero d m = Memᴰ.head refl
-  mem_at (x ∷ xs) (suc j) d m = Memᴰ.tail (mem_at xs j d (le_of_suc-le-suc m))
+    -- the roll without its last lease
+    pub shorter : ∥ Orderly (take (l.count - 1) l.rows.now) l.issued ∥₁
+    shorter = orderly_so (take l.count l.rows.now) (take (l.count - 1) (take l.count l.rows.now)) (take (l.count - 1) l.rows.now) l.issued l.issued l.orderly (sym (take-take (l.count - 1) l.count l.rows.now (omega arith))) (orderly_take (l.count - 1) (take l.count l.rows.now) l.issued)
 
-  -- a lease that another lends stands after it
-  pub lends_after : (n k : ℕ) (roll : List (Lease S)) (issued : ℕ) → ∥ Orderly roll issued ∥₁ → Placed n roll k → lends (drop k roll) n ≡ lends roll n
-  lends_after n k roll issued o p = some_after (λ l. eqb l.lender n) roll k (λ j d h m. ne_eqb (get_or roll j d).lender n (λ e. let a = p.lower j d h in let b = lower_at j d m in omega arith))
-    where
-      lower_at : (j : ℕ) (d : Lease S) → j < length roll → (get_or roll j d).lender < (get_or roll j d).number
-      lower_at j d m = ∥∥₁_elim o (λ x y. le_prop x y) (λ q. q.lower (get_or roll j d) (mem_at roll j d m))
+    -- the rows behind a lease are moved over it
+    module _ (n k : ℕ) (found : Found n (take l.count l.rows.now) k) (moved : List (Lease S)) (is : moved ≡ paste l.rows.now k (drop (k + 1) l.rows.now) (l.count - (k + 1))) where
+      within : k < l.count
+      within = let h = found.within in let u = used in omega arith
+
+      le : l.count ≤ length l.rows.now
+      le = let h = l.fits in omega arith
+
+      pub gap_closed : take (l.count - 1) moved ≡ close n (take l.count l.rows.now)
+      gap_closed = ap (take (l.count - 1)) is ∙ gap_roll l.rows.now l.count k within le ∙ sym found.closes
+
+      pub gap_orderly : ∥ Orderly (take (l.count - 1) moved) l.issued ∥₁
+      gap_orderly = orderly_so (take l.count l.rows.now) (close n (take l.count l.rows.now)) (take (l.count - 1) moved) l.issued l.issued l.orderly gap_closed (orderly_close n (take l.count l.rows.now) l.issued)
+
+      pub gap_unused : unused moved ≡ unused l.rows.now
+      gap_unused = ap (drop 1024) is ∙ gap_rest l.rows.now l.count k within le 1024 (let h = l.fits in omega arith)

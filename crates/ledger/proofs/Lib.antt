@@ -1,4 +1,7 @@
+mod Fronts
 mod Gaps
-mod Walks
-mod Places
 mod Ledgers
+mod Places
+mod Relends
+mod Steps
+mod Walks

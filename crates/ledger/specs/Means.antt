@@ -1,19 +1,20 @@
 -- What a ledger stands for.
-use Rattle.std.specs.Prelude.{◌≡◌, List, None}
+use Rattle.std.specs.Prelude.{◌≡◌, min, List, length, take, None}
 use Rattle.lending.specs.declared.lease.Lease.{Lease}
+use Rattle.lending.specs.Limits.{most_rows}
 use Rattle.lending.specs.Office.{Core, State}
 use Rattle.office.specs.Lawful.{unused}
 use Rattle.ledger.specs.declared.ledger.Ledger.{Ledger}
-use Rattle.ledger.specs.Tables.{roll_of, room}
 
 module _ {S : Type 0} where
+  -- the first rows are the roll, and a ledger uses the first 1,024 rows, or all if fewer
   abbrev pub means : Ledger S → State S
   means l = record {
     core = record {
-      roll = roll_of l.table;
+      roll = take l.count l.rows.now;
       issued = l.issued;
       today = l.today;
-      capacity = room l.table;
+      capacity = min most_rows (length l.rows.now);
       depth = 0;
     };
     objections = λ q. None;
@@ -21,7 +22,7 @@ module _ {S : Type 0} where
 
   -- what its rows hold
   abbrev pub rows_in : Ledger S → List (Lease S)
-  rows_in l = l.table.rows.now
+  rows_in l = l.rows.now
 
   -- the ledger `was` has become l, which stands for this, with the same rows
   pub record Stands (l was : Ledger S) (c : Core S) : Type 0 where

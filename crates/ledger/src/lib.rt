@@ -1,9 +1,7 @@
-// The ledger: the office without layers, over rows that are lent to it, for every kind of share. `ledger` has its parts.
-// Below it each module sees what the one before keeps to itself: rows, the table of them, what granted calls change in a
-// ledger, and its calls.
+// The ledger: the office without layers, over rows that are lent to it, for every kind of share. `ledger` has the ledger
+// and what its calls do to its rows, and `ledger::calls` the calls.
 #![tactic(auto)]
 
 mod ledger;
-mod rows;
 
 pub use ledger::Ledger;

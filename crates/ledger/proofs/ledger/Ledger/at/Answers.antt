@@ -1,16 +1,9 @@
-use Rattle.std.proofs.Common.{arith}
-use Rattle.ledger.specs.Tables.{roll_of}
-use Rattle.ledger.proofs.Ledgers.{used, at_past, at_within}
+use Rattle.std.proofs.Common.{take}
+use Rattle.ledger.proofs.Places.{at_read}
 use Rattle.ledger.proofs.ledger.Ledger.at.Goals as goal
 
-pub returns-then-position-self : goal.returns-then-position-self
-returns-then-position-self g c =
+pub returns : goal.returns
+returns g c =
     let l = c.args.self.now in
-    let u = used l.table l.fits in
-    at_within (roll_of l.table) c.args.position c.at.result (omega arith) c.at.ensures
-
-pub returns-else-position-self : goal.returns-else-position-self
-returns-else-position-self g c =
-    let l = c.args.self.now in
-    let u = used l.table l.fits in
-    at_past (roll_of l.table) c.args.position (omega arith)
+    let read = c.get.ensures.lookup in
+    rw c.copied.ensures (at_read (take l.count l.rows.now) c.args.position c.get.result (rw (← c.roll.ensures) read.0) (rw (← c.roll.ensures) read.1))

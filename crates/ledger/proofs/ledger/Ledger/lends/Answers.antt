@@ -1,22 +1,15 @@
-use Rattle.std.proofs.Common.{List, drop, sym, ap, ◌∙◌, subst}
+use Rattle.std.proofs.Common.{eqb, drop, ap, ◌∙◌, rules}
+use borrow.Author.Tests.{tests}
+use Rattle.std.proofs.lemmas.Iterator.{YieldsList-from_slice}
+use Rattle.std.proofs.lemmas.Iterator.Search.{any_from_yields_List}
 use Rattle.std.proofs.lemmas.List.{take_rest}
-use Rattle.lending.specs.declared.lease.Lease.{Lease}
-use Rattle.lending.specs.Roll.{Rising, lends}
-use Rattle.ledger.specs.Rows.{Placed}
-use Rattle.ledger.specs.Tables.{roll_of}
-use Rattle.ledger.proofs.Ledgers.{tidy, lends_after}
+use Rattle.lending.specs.Roll.{lends}
+use Rattle.ledger.proofs.Walks.{any_some, lends_behind}
 use Rattle.ledger.proofs.ledger.Ledger.lends.Goals as goal
-
-pub place-k-requires : goal.place-k-requires
-place-k-requires g c = subst (λ (xs : List (Lease g.row.S.Denot)). Rising 0 xs) (sym c.roll-roll.ensures) (tidy c.args.self.now).rises
 
 pub returns : goal.returns
 returns g c =
-    let l = c.args.self.now in
-    let n = c.args.number in
-    let k = c.place-k.result in
-    let e = c.roll-roll.ensures in
-    c.any_row.ensures
-    ∙ ap (λ (xs : List (Lease g.row.S.Denot)). lends xs n) (take_rest c.roll-roll.result.now k)
-    ∙ ap (λ (xs : List (Lease g.row.S.Denot)). lends (drop k xs) n) e
-    ∙ lends_after n k (roll_of l.table) l.issued l.orderly (subst (λ (xs : List (Lease g.row.S.Denot)). Placed n xs k) e c.place-k.ensures)
+    any_from_yields_List (λ l. eqb l.lender c.args.number) _ _ _ c.any.ensures.ran (YieldsList-from_slice (drop c.partition_point-next.result c.roll-roll.result.now) (c.iter.ensures.rest ∙ take_rest c.roll-roll.result.now c.partition_point-next.result)) (λ x b q k. search (rules, tests))
+    ∙ any_some (λ l. eqb l.lender c.args.number) (drop c.partition_point-next.result c.roll-roll.result.now)
+    ∙ lends_behind c.args.number c.partition_point-next.result c.roll-roll.result.now c.args.self.now.issued (rw c.roll-roll.ensures c.args.self.now.orderly) c.partition_point-next.ensures.partitioned (λ a r q k. search rules)
+    ∙ ap (λ roll. lends roll c.args.number) c.roll-roll.ensures
