@@ -1,5 +1,5 @@
 -- What calls and answers say that are given as values.
-use Rattle.std.specs.Prelude.{ℕ, Bool, true, false, Ok, Err, Result}
+use Rattle.std.specs.Prelude.{Ok, Err, Result}
 use Rattle.lending.specs.declared.refusal.Refusal.{Refusal}
 use Rattle.lending.specs.Outcome as office
 use Rattle.lending.specs.Outcome.Call.{open_resource, delegate, yield, merge, assign, new_day, ask_count, ask_issued, ask_today, ask_lease_at, ask_lease}
@@ -25,25 +25,9 @@ called (LeaseAt position) = ask_lease_at position
 called (LeaseOf n) = ask_lease n
 
 module _ {S : Type 0} where
-  -- the answer that a value stands for
-  abbrev pub answered : Answer S → office.Answer S
-  answered answers.Done = done
-  answered (answers.Number n) = number n
-  answered (answers.Lease l) = lease l
-  answered (answers.Refused r) = refused (meant r)
-
-  -- it is a refusal
-  abbrev pub is_refusal : Answer S → Bool
-  is_refusal answers.Done = false
-  is_refusal (answers.Number n) = false
-  is_refusal (answers.Lease l) = false
-  is_refusal (answers.Refused r) = true
-
-  -- the answers of the calls one by one, as values
-  abbrev pub by_number : Result ℕ Refusal → Answer S
-  by_number (Ok n) = answers.Number n
-  by_number (Err f) = answers.Refused f
-
-  abbrev pub by_done : Result (Unit {0}) Refusal → Answer S
-  by_done (Ok x) = answers.Done
-  by_done (Err f) = answers.Refused f
+  -- the answer that a value stands for, or the refusal
+  abbrev pub answered : Result (Answer S) Refusal → office.Answer S
+  answered (Ok answers.Done) = done
+  answered (Ok (answers.Number n)) = number n
+  answered (Ok (answers.Lease l)) = lease l
+  answered (Err r) = refused (meant r)

@@ -1,7 +1,11 @@
-use lending::{Lease, Refusal};
+ghost use Rattle.std.specs.Prelude.{Some};
+ghost use Rattle.desk.specs.Written.{written};
+
+use lending::Lease;
+use std::fmt;
 
 // A call to an office, as a value.
-#[derive(Clone, Copy, Drop)]
+#[derive(Clone, Copy, PartialEq, Eq, Debug, Drop)]
 pub enum Call {
     Open { resource: u16, holder: u16 },
     Delegate { lender: u16, holder: u16, due: u16 },
@@ -16,11 +20,35 @@ pub enum Call {
     LeaseOf { number: u16 },
 }
 
-// What an office answers to it.
+// The call as it is written: its name and its numbers, with blanks between.
+impl fmt::Display for Call {
+    ghost output = { λ call. Some (written call) };
+
+    fn fmt<W: fmt::Write>(&self, f: &mut fmt::Formatter<W>) -> fmt::Result {
+        match *self {
+            Call::Open { resource, holder } => write!(f, "open {resource} {holder}"),
+            Call::Delegate {
+                lender,
+                holder,
+                due,
+            } => write!(f, "delegate {lender} {holder} {due}"),
+            Call::Yield { lease } => write!(f, "yield {lease}"),
+            Call::Merge { a, b } => write!(f, "merge {a} {b}"),
+            Call::Assign { lease, holder } => write!(f, "assign {lease} {holder}"),
+            Call::SetDay { day } => write!(f, "set_day {day}"),
+            Call::Count => write!(f, "count"),
+            Call::Issued => write!(f, "issued"),
+            Call::Today => write!(f, "today"),
+            Call::LeaseAt { position } => write!(f, "lease_at {position}"),
+            Call::LeaseOf { number } => write!(f, "lease {number}"),
+        }
+    }
+}
+
+// What an office answers to a call that it grants, or to a question.
 #[derive(Clone, Copy)]
 pub enum Answer<S> {
     Done,
     Number(usize),
     Lease(Lease<S>),
-    Refused(Refusal),
 }

@@ -1,8 +1,8 @@
-ghost use Rattle.std.specs.Prelude.{◌≡◌, true};
+ghost use Rattle.std.specs.Prelude.{◌≡◌, false, is_ok};
 ghost use Rattle.lending.specs.Perform.{Does};
 ghost use Rattle.lending.specs.Promise.{LendingConserved, CallConserves};
 ghost use Rattle.office.specs.Lawful.{unused};
-ghost use Rattle.desk.specs.Values.{called, answered, is_refusal, by_number, by_done};
+ghost use Rattle.desk.specs.Values.{called, answered};
 
 use crate::call::{Answer, Call};
 use crate::calls::{assign, delegate, merge, open, set_day, yield_lease};
@@ -11,54 +11,44 @@ use lending::Refusal;
 use office::Office;
 
 // Makes a call that is given as a value.
-pub fn make<O: Office>(office: &mut O, call: Call) -> Answer<O::Kind>
+pub fn make<O: Office>(office: &mut O, call: Call) -> Result<Answer<O::Kind>, Refusal>
     ensures does { Does O.Kind.Share.kind (O.Office.meaning office.old) (called call) (answered result) (O.Office.meaning office.new) }
-    ensures same { is_refusal result ≡ true → office.new ≡ office.old }
+    ensures same { is_ok result ≡ false → office.new ≡ office.old }
     ensures unused { unused (O.Office.rows office.new) ≡ unused (O.Office.rows office.old) }
     ensures conserved { CallConserves O.Kind.Share.kind (O.Office.meaning office.old) (called call) (answered result) (O.Office.meaning office.new) }
     ensures always { LendingConserved O.Kind.Share.kind }
 {
     match call {
-        Call::Open { resource, holder } => number(open(office, resource, holder)),
+        Call::Open { resource, holder } => {
+            Ok(Answer::Number(usize::from(open(office, resource, holder)?)))
+        }
         Call::Delegate {
             lender,
             holder,
             due,
-        } => number(delegate(office, lender, holder, due)),
-        Call::Yield { lease } => done(yield_lease(office, lease)),
-        Call::Merge { a, b } => done(merge(office, a, b)),
-        Call::Assign { lease, holder } => done(assign(office, lease, holder)),
-        Call::SetDay { day } => done(set_day(office, day)),
-        Call::Count => Answer::Number(count(office)),
-        Call::Issued => Answer::Number(usize::from(issued(office))),
-        Call::Today => Answer::Number(usize::from(today(office))),
-        Call::LeaseAt { position } => match lease_at(office, usize::from(position)) {
-            Ok(lease) => Answer::Lease(lease),
-            Err(refusal) => Answer::Refused(refusal),
-        },
-        Call::LeaseOf { number } => match lease(office, number) {
-            Ok(lease) => Answer::Lease(lease),
-            Err(refusal) => Answer::Refused(refusal),
-        },
-    }
-}
-
-// The answer of a call that gives a number.
-fn number<S>(answer: Result<u16, Refusal>) -> Answer<S>
-    ensures { result ≡ by_number answer }
-{
-    match answer {
-        Ok(n) => Answer::Number(usize::from(n)),
-        Err(refusal) => Answer::Refused(refusal),
-    }
-}
-
-// The answer of a call that gives nothing.
-fn done<S>(answer: Result<(), Refusal>) -> Answer<S>
-    ensures { result ≡ by_done answer }
-{
-    match answer {
-        Ok(()) => Answer::Done,
-        Err(refusal) => Answer::Refused(refusal),
+        } => Ok(Answer::Number(usize::from(delegate(office, lender, holder, due)?))),
+        Call::Yield { lease } => {
+            yield_lease(office, lease)?;
+            Ok(Answer::Done)
+        }
+        Call::Merge { a, b } => {
+            merge(office, a, b)?;
+            Ok(Answer::Done)
+        }
+        Call::Assign { lease, holder } => {
+            assign(office, lease, holder)?;
+            Ok(Answer::Done)
+        }
+        Call::SetDay { day } => {
+            set_day(office, day)?;
+            Ok(Answer::Done)
+        }
+        Call::Count => Ok(Answer::Number(count(office))),
+        Call::Issued => Ok(Answer::Number(usize::from(issued(office)))),
+        Call::Today => Ok(Answer::Number(usize::from(today(office)))),
+        Call::LeaseAt { position } => {
+            Ok(Answer::Lease(lease_at(office, usize::from(position))?))
+        }
+        Call::LeaseOf { number } => Ok(Answer::Lease(lease(office, number)?)),
     }
 }
