@@ -1,13 +1,12 @@
 -- How a call is written.
-use Rattle.std.specs.Prelude.{ℕ, List, [], ◌∷◌, ◌++◌, codes}
+use Rattle.std.specs.Prelude.{ℕ, List, [], ◌∷◌, ◌++◌, codes, flat_map}
 use Rattle.std.specs.Fmt.{decimal}
 use Rattle.desk.specs.declared.call.Call.{Call}
 use Rattle.desk.specs.declared.call.Call.TheVariants.{Open, Delegate, Yield, Merge, Assign, SetDay, Count, Issued, Today, LeaseAt, LeaseOf}
 
--- the name of a call and its numbers, each after a blank
+-- the name of a call, and its numbers in decimal, each after a blank
 abbrev pub named : List ℕ → List ℕ → List ℕ
-named name [] = name
-named name (n ∷ ns) = named (name ++ codes " " ++ decimal n) ns
+named name numbers = name ++ flat_map (λ n. codes " " ++ decimal n) numbers
 
 -- the call as it is written
 abbrev pub written : Call → List ℕ

@@ -20,35 +20,21 @@ pub fn make<O: Office>(office: &mut O, call: Call) -> Result<Answer<O::Kind>, Re
 {
     match call {
         Call::Open { resource, holder } => {
-            Ok(Answer::Number(usize::from(open(office, resource, holder)?)))
+            open(office, resource, holder).map(|n| Answer::Number(usize::from(n)))
         }
         Call::Delegate {
             lender,
             holder,
             due,
-        } => Ok(Answer::Number(usize::from(delegate(office, lender, holder, due)?))),
-        Call::Yield { lease } => {
-            yield_lease(office, lease)?;
-            Ok(Answer::Done)
-        }
-        Call::Merge { a, b } => {
-            merge(office, a, b)?;
-            Ok(Answer::Done)
-        }
-        Call::Assign { lease, holder } => {
-            assign(office, lease, holder)?;
-            Ok(Answer::Done)
-        }
-        Call::SetDay { day } => {
-            set_day(office, day)?;
-            Ok(Answer::Done)
-        }
+        } => delegate(office, lender, holder, due).map(|n| Answer::Number(usize::from(n))),
+        Call::Yield { lease } => yield_lease(office, lease).map(|()| Answer::Done),
+        Call::Merge { a, b } => merge(office, a, b).map(|()| Answer::Done),
+        Call::Assign { lease, holder } => assign(office, lease, holder).map(|()| Answer::Done),
+        Call::SetDay { day } => set_day(office, day).map(|()| Answer::Done),
         Call::Count => Ok(Answer::Number(count(office))),
         Call::Issued => Ok(Answer::Number(usize::from(issued(office)))),
         Call::Today => Ok(Answer::Number(usize::from(today(office)))),
-        Call::LeaseAt { position } => {
-            Ok(Answer::Lease(lease_at(office, usize::from(position))?))
-        }
-        Call::LeaseOf { number } => Ok(Answer::Lease(lease(office, number)?)),
+        Call::LeaseAt { position } => lease_at(office, usize::from(position)).map(Answer::Lease),
+        Call::LeaseOf { number } => lease(office, number).map(Answer::Lease),
     }
 }

@@ -1,9 +1,8 @@
 // Making calls, and printing what comes of them.
-use crate::read::{Line, SetUp};
-use crate::show::{print_answer, print_call, print_roll};
+use crate::read::{Line, SetUp, Unreadable};
+use crate::show::{print_answer, print_roll};
 use chain::Chain;
 use desk::{Call, make};
-use kinds::KIND_NAMES;
 use layer::Layer;
 use ledger::Ledger;
 use lending::{Lease, MOST_ROWS};
@@ -12,19 +11,11 @@ use quota::Quota;
 use shares::Printed;
 use term::Term;
 
-// What is said where a line can't be read, or there is no office yet.
-pub(crate) fn say_what_is_expected(rt: &HostRuntime) -> anyhow::Result<()> {
-    println!(rt;
-        "expected: office KIND ROWS QUOTA TERM CHAIN (KIND is {KIND_NAMES}), or a call to that office: open RESOURCE HOLDER, delegate LENDER HOLDER DUE, yield LEASE, merge A B, assign LEASE HOLDER, set_day DAY, count, issued, today, lease NUMBER or lease_at POSITION"
-    )?;
-    Ok(())
-}
-
 // Sets up an office, and makes the calls to it up to the next office.
 pub(crate) fn serve<S: Printed>(
     rt: &HostRuntime,
     office: SetUp,
-    lines: &[Line],
+    lines: &[Result<Line, Unreadable>],
 ) -> anyhow::Result<()> {
     let name = office.kind.name();
     let used = usize::from(office.rows).min(MOST_ROWS);
@@ -43,10 +34,7 @@ pub(crate) fn serve<S: Printed>(
         due: 0,
         share: S::empty(),
     };
-    let mut rows = Vec::new(rt.alloc());
-    for _ in 0..office.rows {
-        rows.push(free)?;
-    }
+    let mut rows = vec![in rt.alloc(); free; usize::from(office.rows)]?;
     serve_over(rt, Ledger::new(rows.as_mut_slice()), office, lines)
 }
 
@@ -55,7 +43,7 @@ fn serve_over<S: Printed, O: Office<Kind = S> + Drop>(
     rt: &HostRuntime,
     below: O,
     office: SetUp,
-    lines: &[Line],
+    lines: &[Result<Line, Unreadable>],
 ) -> anyhow::Result<()> {
     let chain = Layer::new(
         below,
@@ -71,10 +59,9 @@ fn serve_over<S: Printed, O: Office<Kind = S> + Drop>(
         },
     );
     for line in lines {
-        match *line {
-            Line::Office(_) => return Ok(()),
-            Line::Call(call) => answer(rt, &mut pile, call)?,
-            Line::Unreadable => say_what_is_expected(rt)?,
+        match line {
+            Ok(Line::Call(call)) => answer(rt, &mut pile, *call)?,
+            _ => println!(rt; "{Unreadable}")?,
         }
     }
     Ok(())
@@ -86,7 +73,7 @@ fn answer<S: Printed, O: Office<Kind = S>>(
     office: &mut O,
     call: Call,
 ) -> anyhow::Result<()> {
-    print_call(rt, call)?;
+    println!(rt; "{call}")?;
     print_answer(rt, call, make(office, call))?;
     match call {
         Call::Count | Call::Issued | Call::Today | Call::LeaseAt { .. } | Call::LeaseOf { .. } =>

@@ -4,10 +4,9 @@
 mod answer;
 mod read;
 mod show;
-mod words;
 
-use crate::answer::{say_what_is_expected, serve};
-use crate::read::{Line, read_line};
+use crate::answer::serve;
+use crate::read::{Line, Unreadable};
 use kinds::{of_kind, *};
 use std::io::ErrorKind;
 
@@ -15,37 +14,37 @@ fn main(rt: HostRuntime) -> anyhow::Result<()> {
     answer_all(&rt)
 }
 
-// Answers each line of standard input.
+// Answers each line of standard input: from each line that sets up an office to the next, the calls to that office.
 fn answer_all(rt: &HostRuntime) -> anyhow::Result<()> {
     let lines = read_all(rt)?;
-    let mut set_up = false;
-    for (i, line) in lines.as_slice().iter().enumerate() {
-        match *line {
-            Line::Office(office) => {
-                set_up = true;
-                let calls = &lines.as_slice()[i + 1..];
-                of_kind!(office.kind, serve(rt, office, calls))?;
+    if lines.is_empty() {
+        println!(rt; "{Unreadable}")?;
+    }
+    for part in lines
+        .as_slice()
+        .chunk_by(|_, line| !matches!(line, Ok(Line::Office(_))))
+    {
+        match part {
+            [Ok(Line::Office(office)), calls @ ..] => {
+                of_kind!(office.kind, serve(rt, *office, calls))?;
             }
             _ => {
-                if !set_up {
-                    say_what_is_expected(rt)?;
+                for _ in part {
+                    println!(rt; "{Unreadable}")?;
                 }
             }
         }
-    }
-    if lines.is_empty() {
-        say_what_is_expected(rt)?;
     }
     Ok(())
 }
 
 // The lines of standard input, as far as they can be read.
-fn read_all(rt: &HostRuntime) -> anyhow::Result<Vec<Line>> {
+fn read_all(rt: &HostRuntime) -> anyhow::Result<Vec<Result<Line, Unreadable>>> {
     let mut lines = Vec::new(rt.alloc());
     for line in rt.lines(rt.alloc()) {
         match line {
-            Ok(line) => lines.push(read_line(line.as_str()))?,
-            Err(error) if error.kind() == ErrorKind::InvalidData => lines.push(Line::Unreadable)?,
+            Ok(line) => lines.push(line.as_str().parse())?,
+            Err(error) if error.kind() == ErrorKind::InvalidData => lines.push(Err(Unreadable))?,
             Err(error) => return Err(error.into()),
         }
     }

@@ -1,7 +1,9 @@
 // Reading lines.
 use desk::Call;
-use kinds::KindOfShare;
-use std::str::SplitWhitespace;
+use kinds::{KIND_NAMES, KindOfShare};
+use std::fmt;
+use std::num::ParseIntError;
+use std::str::{FromStr, SplitWhitespace};
 
 // An office to set up: Quota on Term on Chain on a ledger with so many rows, for a kind of share.
 #[derive(Clone, Copy, Drop)]
@@ -18,42 +20,59 @@ pub(crate) struct SetUp {
 pub(crate) enum Line {
     Office(SetUp),
     Call(Call),
-    Unreadable,
+}
+
+// That a line asks for nothing that there is. It prints what is expected.
+#[derive(Clone, Copy, Debug, Drop)]
+pub(crate) struct Unreadable;
+
+impl fmt::Display for Unreadable {
+    fn fmt<W: fmt::Write>(&self, f: &mut fmt::Formatter<W>) -> fmt::Result {
+        write!(
+            f,
+            "expected: office KIND ROWS QUOTA TERM CHAIN (KIND is {KIND_NAMES}), or a call to that office: open RESOURCE HOLDER, delegate LENDER HOLDER DUE, yield LEASE, merge A B, assign LEASE HOLDER, set_day DAY, count, issued, today, lease NUMBER or lease_at POSITION"
+        )
+    }
+}
+
+impl From<ParseIntError> for Unreadable {
+    fn from(_error: ParseIntError) -> Unreadable {
+        Unreadable
+    }
 }
 
 // Reads a line: the name of what is asked for, and its numbers.
-pub(crate) fn read_line(line: &str) -> Line {
-    let mut words = line.split_whitespace();
-    let read = match words.next() {
-        Some("office") => read_office(&mut words),
-        Some(name) => read_call(name, &mut words),
-        None => None,
-    };
-    match read {
-        Some(asked) if words.next().is_none() => asked,
-        _ => Line::Unreadable,
+impl FromStr for Line {
+    type Err = Unreadable;
+
+    fn from_str(line: &str) -> Result<Line, Unreadable> {
+        let mut words = line.split_whitespace();
+        let asked = match words.next().ok_or(Unreadable)? {
+            "office" => Line::Office(read_office(&mut words)?),
+            name => Line::Call(read_call(name, &mut words)?),
+        };
+        match words.next() {
+            None => Ok(asked),
+            Some(_) => Err(Unreadable),
+        }
     }
 }
 
 // The numbers of an office to set up.
-fn read_office(words: &mut SplitWhitespace) -> Option<Line> {
-    let kind = KindOfShare::named(words.next()?)?;
-    let rows = number(words)?;
-    let quota = number(words)?;
-    let term = number(words)?;
-    let chain = number(words)?;
-    Some(Line::Office(SetUp {
-        kind,
-        rows,
-        quota,
-        term,
-        chain,
-    }))
+fn read_office(words: &mut SplitWhitespace) -> Result<SetUp, Unreadable> {
+    let kind = words.next().ok_or(Unreadable)?;
+    Ok(SetUp {
+        kind: KindOfShare::named(kind).ok_or(Unreadable)?,
+        rows: number(words)?,
+        quota: number(words)?,
+        term: number(words)?,
+        chain: number(words)?,
+    })
 }
 
 // The numbers of a call.
-fn read_call(name: &str, words: &mut SplitWhitespace) -> Option<Line> {
-    let call = match name {
+fn read_call(name: &str, words: &mut SplitWhitespace) -> Result<Call, Unreadable> {
+    Ok(match name {
         "open" => Call::Open {
             resource: number(words)?,
             holder: number(words)?,
@@ -86,12 +105,11 @@ fn read_call(name: &str, words: &mut SplitWhitespace) -> Option<Line> {
         "lease_at" => Call::LeaseAt {
             position: number(words)?,
         },
-        _ => return None,
-    };
-    Some(Line::Call(call))
+        _ => return Err(Unreadable),
+    })
 }
 
 // The next word, as a number.
-fn number(words: &mut SplitWhitespace) -> Option<u16> {
-    words.next()?.parse::<u16>().ok()
+fn number(words: &mut SplitWhitespace) -> Result<u16, Unreadable> {
+    Ok(words.next().ok_or(Unreadable)?.parse()?)
 }

@@ -1,50 +1,30 @@
-// Printing calls, answers and the roll.
-use crate::words::words;
+// Printing answers and the roll.
 use desk::{Answer, Call, count, issued, lease_at, today};
-use lending::Lease;
+use lending::{Lease, Refusal};
 use office::Office;
 use shares::{Printed, text_of};
-
-// The call as it was read.
-pub(crate) fn print_call(rt: &HostRuntime, call: Call) -> anyhow::Result<()> {
-    match call {
-        Call::Open { resource, holder } => println!(rt; "open {resource} {holder}")?,
-        Call::Delegate {
-            lender,
-            holder,
-            due,
-        } => println!(rt; "delegate {lender} {holder} {due}")?,
-        Call::Yield { lease } => println!(rt; "yield {lease}")?,
-        Call::Merge { a, b } => println!(rt; "merge {a} {b}")?,
-        Call::Assign { lease, holder } => println!(rt; "assign {lease} {holder}")?,
-        Call::SetDay { day } => println!(rt; "set_day {day}")?,
-        Call::Count => println!(rt; "count")?,
-        Call::Issued => println!(rt; "issued")?,
-        Call::Today => println!(rt; "today")?,
-        Call::LeaseAt { position } => println!(rt; "lease_at {position}")?,
-        Call::LeaseOf { number } => println!(rt; "lease {number}")?,
-    }
-    Ok(())
-}
+use std::alloc::{AllocError, Global};
+use std::fmt;
 
 // The answer to a call. A number in answer to a call that isn't a question is that of the lease that was issued.
 pub(crate) fn print_answer<S: Printed>(
     rt: &HostRuntime,
     call: Call,
-    answer: Answer<S>,
+    answer: Result<Answer<S>, Refusal>,
 ) -> anyhow::Result<()> {
     match answer {
-        Answer::Done => println!(rt; "  granted")?,
-        Answer::Number(n) => match call {
+        Ok(Answer::Done) => println!(rt; "  granted")?,
+        Ok(Answer::Number(n)) => match call {
             Call::Open { .. } | Call::Delegate { .. } => println!(rt; "  granted, lease {n}")?,
             _ => println!(rt; "  {n}")?,
         },
-        Answer::Lease(lease) => print_lease(rt, "  ", lease)?,
-        Answer::Refused(refusal) => {
-            let number = refusal.reason.number();
-            let level = refusal.level;
-            let why = words(refusal.reason);
-            println!(rt; "  refused {number} at level {level}: {why}")?;
+        Ok(Answer::Lease(lease)) => {
+            let entry = Entry::of(rt.alloc(), lease)?;
+            println!(rt; "  {entry}")?;
+        }
+        Err(Refusal { reason, level }) => {
+            let number = reason.number();
+            println!(rt; "  refused {number} at level {level}: {reason}")?;
         }
     }
     Ok(())
@@ -59,33 +39,47 @@ pub(crate) fn print_roll<S: Printed, O: Office<Kind = S>>(
     let numbers = issued(office);
     let live = count(office);
     println!(rt; "  today is day {day}, {numbers} issued, {live} live")?;
-    for position in 0..live {
-        if let Ok(lease) = lease_at(office, position) {
-            print_lease(rt, "    ", lease)?;
-        }
+    for lease in (0..live).filter_map(|position| lease_at(office, position).ok()) {
+        let entry = Entry::of(rt.alloc(), lease)?;
+        println!(rt; "    {entry}")?;
     }
     Ok(())
 }
 
-// A lease, after some blanks.
-fn print_lease<S: Printed>(rt: &HostRuntime, blanks: &str, lease: Lease<S>) -> anyhow::Result<()> {
-    let Lease {
-        number,
-        resource,
-        holder,
-        lender,
-        due,
-        share,
-    } = lease;
-    let text = text_of(rt.alloc(), share)?;
-    if lender == 0 {
-        println!(rt;
-            "{blanks}lease {number}: resource {resource}, holder {holder}, lent by the house, share {text}"
-        )?;
-    } else {
-        println!(rt;
-            "{blanks}lease {number}: resource {resource}, holder {holder}, lent by lease {lender} until day {due}, share {text}"
-        )?;
+// A lease, with the text of its share.
+#[derive(Drop)]
+struct Entry<S: Printed> {
+    lease: Lease<S>,
+    share: String,
+}
+
+impl<S: Printed> Entry<S> {
+    fn of(heap: Global, lease: Lease<S>) -> Result<Entry<S>, AllocError> {
+        let share = text_of(heap, lease.share)?;
+        Ok(Entry { lease, share })
     }
-    Ok(())
+}
+
+impl<S: Printed> fmt::Display for Entry<S> {
+    fn fmt<W: fmt::Write>(&self, f: &mut fmt::Formatter<W>) -> fmt::Result {
+        let Lease {
+            number,
+            resource,
+            holder,
+            lender,
+            due,
+            ..
+        } = self.lease;
+        write!(
+            f,
+            "lease {number}: resource {resource}, holder {holder}, lent by "
+        )?;
+        if lender == 0 {
+            write!(f, "the house")?;
+        } else {
+            write!(f, "lease {lender} until day {due}")?;
+        }
+        let share = self.share.as_str();
+        write!(f, ", share {share}")
+    }
 }
