@@ -1,3 +1,4 @@
+use crate::share_tests::prints;
 use chain::Chain;
 use desk::{assign, delegate, lease_at, merge, open, set_day, yield_lease};
 use layer::Layer;
@@ -22,20 +23,11 @@ fn free_row() -> Lease<Trees> {
     }
 }
 
-// The number and the level of a refusal; two times 255 if there is none.
-fn refusal<T: Drop>(answer: Result<T, Refusal>) -> (u8, u8) {
-    match answer {
-        Ok(_) => (255, 255),
-        Err(refusal) => (refusal.reason.number(), refusal.level),
-    }
-}
-
-// The number that was issued, or 0 if the call was refused.
-fn issued(answer: Result<u16, Refusal>) -> u16 {
-    match answer {
-        Ok(number) => number,
-        Err(_) => 0,
-    }
+// The number and the level of a refusal.
+fn refusal<T: Drop>(answer: Result<T, Refusal>) -> Option<(u8, u8)> {
+    answer
+        .err()
+        .map(|refusal| (refusal.reason.number(), refusal.level))
 }
 
 // Whether a position of the roll has a lease with this number and this text of its share.
@@ -45,17 +37,8 @@ fn stands<S: Printed, O: Office<Kind = S>>(
     number: u16,
     text: &[u8],
 ) -> bool {
-    let Ok(lease) = lease_at(office, position) else {
-        return false;
-    };
-    let Lease {
-        number: found,
-        share,
-        ..
-    } = lease;
-    let mut space = [0u8; 190];
-    let length = share.write(&mut space);
-    found == number && &space[0..length] == text
+    lease_at(office, position).is_ok_and(|lease| lease.number == number
+        && prints(lease.share, text))
 }
 
 // Ten calls to a pile of three layers: the worked book, with yields where it has a day and a recall.
@@ -63,17 +46,17 @@ fn ten_calls<S: Printed, O: Office<Kind = S> + Drop>(rt: &impl Abort, below: O) 
     let chain = Layer::new(below, Chain { limit: 2 });
     let term = Layer::new(chain, Term { days: 30 });
     let mut office = Layer::new(term, Quota { limit: 64 });
-    assert_eq!(rt; issued(open(&mut office, 7, 1)), 1);
-    assert_eq!(rt; issued(delegate(&mut office, 1, 2, 20)), 2);
-    assert_eq!(rt; issued(delegate(&mut office, 2, 3, 10)), 3);
-    assert!(rt; refusal(delegate(&mut office, 3, 4, 5)) == (23, 2));
-    assert!(rt; refusal(yield_lease(&mut office, 2)) == (9, 3));
-    assert!(rt; refusal(set_day(&mut office, 10)) == (14, 3));
+    assert_eq!(rt; open(&mut office, 7, 1), Ok(1));
+    assert_eq!(rt; delegate(&mut office, 1, 2, 20), Ok(2));
+    assert_eq!(rt; delegate(&mut office, 2, 3, 10), Ok(3));
+    assert_eq!(rt; refusal(delegate(&mut office, 3, 4, 5)), Some((23, 2)));
+    assert_eq!(rt; refusal(yield_lease(&mut office, 2)), Some((9, 3)));
+    assert_eq!(rt; refusal(set_day(&mut office, 10)), Some((14, 3)));
     assert!(rt; yield_lease(&mut office, 3).is_ok());
     assert!(rt; set_day(&mut office, 10).is_ok());
     assert!(rt; assign(&mut office, 2, 1).is_ok());
-    assert!(rt; refusal(delegate(&mut office, 1, 5, 41)) == (22, 1));
-    assert_eq!(rt; issued(delegate(&mut office, 1, 5, 40)), 4);
+    assert_eq!(rt; refusal(delegate(&mut office, 1, 5, 41)), Some((22, 1)));
+    assert_eq!(rt; delegate(&mut office, 1, 5, 40), Ok(4));
     assert!(rt; yield_lease(&mut office, 2).is_ok());
     assert!(rt; stands(&office, 0, 1, b"((10)1)"));
     assert!(rt; stands(&office, 1, 4, b"((01)0)"));
@@ -95,9 +78,9 @@ fn merge_and_give_back<S: Printed, O: Office<Kind = S> + Drop>(rt: &impl Abort, 
     let _ = delegate(&mut office, 2, 3, 10);
     let _ = delegate(&mut office, 3, 4, 10);
     assert!(rt; merge(&mut office, 2, 3).is_ok());
-    assert!(rt; refusal(yield_lease(&mut office, 2)) == (9, 0));
+    assert_eq!(rt; refusal(yield_lease(&mut office, 2)), Some((9, 0)));
     assert!(rt; yield_lease(&mut office, 5).is_ok());
-    assert!(rt; refusal(yield_lease(&mut office, 2)) == (9, 0));
+    assert_eq!(rt; refusal(yield_lease(&mut office, 2)), Some((9, 0)));
     assert!(rt; yield_lease(&mut office, 4).is_ok());
     assert!(rt; stands(&office, 1, 2, b"((01)1)"));
     assert!(rt; yield_lease(&mut office, 2).is_ok());
@@ -114,10 +97,10 @@ fn merged_leases_come_back_whole(rt: HostRuntime) {
 fn no_row_is_free(rt: HostRuntime) {
     let mut rows = [free_row(); 1];
     let mut office = Ledger::new(&mut rows);
-    assert_eq!(rt; issued(open(&mut office, 7, 1)), 1);
-    assert!(rt; refusal(open(&mut office, 8, 1)) == (5, 0));
+    assert_eq!(rt; open(&mut office, 7, 1), Ok(1));
+    assert_eq!(rt; refusal(open(&mut office, 8, 1)), Some((5, 0)));
     assert!(rt; yield_lease(&mut office, 1).is_ok());
-    assert_eq!(rt; issued(open(&mut office, 8, 1)), 2);
+    assert_eq!(rt; open(&mut office, 8, 1), Ok(2));
     let back = office.into_rows();
     assert_eq!(rt; back.len(), 1);
     assert_eq!(rt; back[0].number, 2);

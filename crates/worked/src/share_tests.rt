@@ -12,7 +12,7 @@ enum Missing {
 }
 
 // Whether a share has this text.
-fn prints<S: Printed>(share: S, text: &[u8]) -> bool {
+pub(crate) fn prints<S: Printed>(share: S, text: &[u8]) -> bool {
     let mut space = [0u8; 190];
     let length = share.write(&mut space);
     &space[0..length] == text
