@@ -1,23 +1,58 @@
--- How a call is written.
-use Rattle.std.specs.Prelude.{ℕ, List, [], ◌∷◌, ◌++◌, codes, flat_map}
+-- How a call is written, by its name and its numbers, and what is read of that.
+use Rattle.std.specs.Prelude.{◌≡◌, ℕ, ◌<◌, ◌^◌, List, [], ◌∷◌, ◌++◌, Ok, Result, codes, flat_map, drop, All, Option, Some, None}
 use Rattle.std.specs.Fmt.{decimal}
 use Rattle.desk.specs.declared.call.Call.{Call}
 use Rattle.desk.specs.declared.call.Call.TheVariants.{Open, Delegate, Yield, Merge, Assign, SetDay, Count, Issued, Today, LeaseAt, LeaseOf}
 
--- the name of a call, and its numbers in decimal, each after a blank
-abbrev pub named : List ℕ → List ℕ → List ℕ
-named name numbers = name ++ flat_map (λ n. codes " " ++ decimal n) numbers
+-- its name
+abbrev pub name_of : Call → List ℕ
+name_of (Open resource holder) = codes "open"
+name_of (Delegate lender holder due) = codes "delegate"
+name_of (Yield l) = codes "yield"
+name_of (Merge a b) = codes "merge"
+name_of (Assign l holder) = codes "assign"
+name_of (SetDay day) = codes "set_day"
+name_of Count = codes "count"
+name_of Issued = codes "issued"
+name_of Today = codes "today"
+name_of (LeaseAt position) = codes "lease_at"
+name_of (LeaseOf n) = codes "lease"
+
+-- its numbers
+abbrev pub numbers_of : Call → List ℕ
+numbers_of (Open resource holder) = resource ∷ holder ∷ []
+numbers_of (Delegate lender holder due) = lender ∷ holder ∷ due ∷ []
+numbers_of (Yield l) = l ∷ []
+numbers_of (Merge a b) = a ∷ b ∷ []
+numbers_of (Assign l holder) = l ∷ holder ∷ []
+numbers_of (SetDay day) = day ∷ []
+numbers_of Count = []
+numbers_of Issued = []
+numbers_of Today = []
+numbers_of (LeaseAt position) = position ∷ []
+numbers_of (LeaseOf n) = n ∷ []
+
+-- numbers in decimal, each after a blank
+abbrev pub numbered : List ℕ → List ℕ
+numbered numbers = flat_map (λ n. codes " " ++ decimal n) numbers
 
 -- the call as it is written
 abbrev pub written : Call → List ℕ
-written (Open resource holder) = named (codes "open") (resource ∷ holder ∷ [])
-written (Delegate lender holder due) = named (codes "delegate") (lender ∷ holder ∷ due ∷ [])
-written (Yield l) = named (codes "yield") (l ∷ [])
-written (Merge a b) = named (codes "merge") (a ∷ b ∷ [])
-written (Assign l holder) = named (codes "assign") (l ∷ holder ∷ [])
-written (SetDay day) = named (codes "set_day") (day ∷ [])
-written Count = codes "count"
-written Issued = codes "issued"
-written Today = codes "today"
-written (LeaseAt position) = named (codes "lease_at") (position ∷ [])
-written (LeaseOf n) = named (codes "lease") (n ∷ [])
+written call = name_of call ++ numbered (numbers_of call)
+
+-- numbers of 16 bits
+abbrev pub Fit : List ℕ → Type 0
+Fit numbers = All (λ n. n < 2 ^ 16) numbers
+
+-- What is read of a call as it is written is that call.
+abbrev pub ReadsBack : {E : Type 0} → List ℕ → Result Call E → Type 0
+ReadsBack text answer = (call : Call) → Fit (numbers_of call) → text ≡ written call → answer ≡ Ok call
+
+-- the first number, if there is one
+abbrev pub first : List ℕ → Option ℕ
+first [] = None
+first (n ∷ numbers) = Some n
+
+-- the first three, as far as there are so many
+abbrev pub first_three : List ℕ → List (Option ℕ)
+first_three numbers = first numbers ∷ first (drop 1 numbers) ∷ first (drop 1 (drop 1 numbers)) ∷ []

@@ -7,9 +7,11 @@
 mod call;
 mod calls;
 mod questions;
+mod read;
 mod values;
 
 pub use call::{Answer, Call};
 pub use calls::{assign, delegate, merge, open, set_day, yield_lease};
 pub use questions::{count, issued, lease, lease_at, today};
+pub use read::NotACall;
 pub use values::make;

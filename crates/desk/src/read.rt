@@ -1,0 +1,86 @@
+// Reading calls as they are written.
+ghost use Rattle.std.specs.Prelude.{◌≡◌, ℕ, List, drop, Ok, Some, codes};
+ghost use Rattle.std.specs.Str.Iter.{split_whitespace_rest};
+ghost use Rattle.desk.specs.declared.call.Call.{Call};
+ghost use Rattle.desk.specs.Written.{name_of, numbers_of, numbered, Fit, ReadsBack, first, first_three};
+
+use crate::call::Call;
+use std::error::Error;
+use std::fmt;
+use std::num::ParseIntError;
+use std::str::{FromStr, SplitWhitespace};
+
+// That a text is no call.
+#[derive(Clone, Copy, PartialEq, Eq, Debug, Drop)]
+pub struct NotACall;
+
+impl fmt::Display for NotACall {
+    ghost output = { λ _. Some (codes "no call to an office") };
+
+    fn fmt<W: fmt::Write>(&self, f: &mut fmt::Formatter<W>) -> fmt::Result {
+        write!(f, "no call to an office")
+    }
+}
+
+impl Error for NotACall {}
+
+impl From<ParseIntError> for NotACall {
+    fn from(_error: ParseIntError) -> NotACall {
+        NotACall
+    }
+}
+
+// Reads a call: its name and its numbers, with blanks before, between and after them as one likes.
+impl FromStr for Call {
+    type Err = NotACall;
+
+    ghost from_str_gives = { ReadsBack };
+
+    fn from_str(text: &str) -> Result<Call, NotACall> {
+        let mut words = text.split_whitespace();
+        let Some(name) = words.next() else {
+            return Err(NotACall);
+        };
+        let first = next_number(&mut words)?;
+        let second = next_number(&mut words)?;
+        let third = next_number(&mut words)?;
+        match words.next() {
+            None => call_of(name, [first, second, third]),
+            Some(_) => Err(NotACall),
+        }
+    }
+}
+
+// The next word as a number, if there is one.
+fn next_number(words: &mut SplitWhitespace) -> Result<Option<u16>, NotACall>
+    ensures { (ns : List ℕ) → Fit ns → split_whitespace_rest words.old ≡ numbered ns → (result ≡ Ok (first ns)) × (split_whitespace_rest words.new ≡ numbered (drop 1 ns)) }
+{
+    match words.next() {
+        None => Ok(None),
+        Some(word) => Ok(Some(word.parse()?)),
+    }
+}
+
+// The call with this name and these numbers.
+fn call_of(name: &str, numbers: [Option<u16>; 3]) -> Result<Call, NotACall>
+    ensures { (call : Call) → name.now ≡ name_of call → numbers ≡ first_three (numbers_of call) → result ≡ Ok call }
+{
+    Ok(match (name, numbers) {
+        ("open", [Some(resource), Some(holder), None]) => Call::Open { resource, holder },
+        ("delegate", [Some(lender), Some(holder), Some(due)]) => Call::Delegate {
+            lender,
+            holder,
+            due,
+        },
+        ("yield", [Some(lease), None, None]) => Call::Yield { lease },
+        ("merge", [Some(a), Some(b), None]) => Call::Merge { a, b },
+        ("assign", [Some(lease), Some(holder), None]) => Call::Assign { lease, holder },
+        ("set_day", [Some(day), None, None]) => Call::SetDay { day },
+        ("count", [None, None, None]) => Call::Count,
+        ("issued", [None, None, None]) => Call::Issued,
+        ("today", [None, None, None]) => Call::Today,
+        ("lease_at", [Some(position), None, None]) => Call::LeaseAt { position },
+        ("lease", [Some(number), None, None]) => Call::LeaseOf { number },
+        _ => return Err(NotACall),
+    })
+}
