@@ -11,7 +11,7 @@ use quota::Quota;
 use shares::Printed;
 use term::Term;
 
-// Sets up an office, and makes the calls to it up to the next office.
+// Sets up an office, and makes the calls to it.
 pub(crate) fn serve<S: Printed>(
     rt: &HostRuntime,
     office: SetUp,
@@ -61,7 +61,7 @@ fn serve_over<S: Printed, O: Office<Kind = S> + Drop>(
     for line in lines {
         match line {
             Ok(Line::Call(call)) => answer(rt, &mut pile, *call)?,
-            _ => println!(rt; "{Unreadable}")?,
+            Ok(Line::Office(_)) | Err(Unreadable) => println!(rt; "{Unreadable}")?,
         }
     }
     Ok(())

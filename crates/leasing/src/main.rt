@@ -20,10 +20,7 @@ fn answer_all(rt: &HostRuntime) -> anyhow::Result<()> {
     if lines.is_empty() {
         println!(rt; "{Unreadable}")?;
     }
-    for part in lines
-        .as_slice()
-        .chunk_by(|_, line| !matches!(line, Ok(Line::Office(_))))
-    {
+    for part in lines.chunk_by(|_, line| !matches!(line, Ok(Line::Office(_)))) {
         match part {
             [Ok(Line::Office(office)), calls @ ..] => {
                 of_kind!(office.kind, serve(rt, *office, calls))?;

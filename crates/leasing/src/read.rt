@@ -1,5 +1,5 @@
 // Reading lines.
-use desk::Call;
+use desk::{Call, NotACall};
 use kinds::{KIND_NAMES, KindOfShare};
 use std::fmt;
 use std::num::ParseIntError;
@@ -41,75 +41,41 @@ impl From<ParseIntError> for Unreadable {
     }
 }
 
-// Reads a line: the name of what is asked for, and its numbers.
 impl FromStr for Line {
     type Err = Unreadable;
 
     fn from_str(line: &str) -> Result<Line, Unreadable> {
+        match line.parse() {
+            Ok(call) => Ok(Line::Call(call)),
+            Err(NotACall) => Ok(Line::Office(line.parse()?)),
+        }
+    }
+}
+
+// Reads the word office, the name of a kind, and four numbers.
+impl FromStr for SetUp {
+    type Err = Unreadable;
+
+    fn from_str(line: &str) -> Result<SetUp, Unreadable> {
         let mut words = line.split_whitespace();
-        let asked = match words.next().ok_or(Unreadable)? {
-            "office" => Line::Office(read_office(&mut words)?),
-            name => Line::Call(read_call(name, &mut words)?),
+        if next(&mut words)? != "office" {
+            return Err(Unreadable);
+        }
+        let office = SetUp {
+            kind: KindOfShare::named(next(&mut words)?).ok_or(Unreadable)?,
+            rows: next(&mut words)?.parse()?,
+            quota: next(&mut words)?.parse()?,
+            term: next(&mut words)?.parse()?,
+            chain: next(&mut words)?.parse()?,
         };
         match words.next() {
-            None => Ok(asked),
+            None => Ok(office),
             Some(_) => Err(Unreadable),
         }
     }
 }
 
-// The numbers of an office to set up.
-fn read_office(words: &mut SplitWhitespace) -> Result<SetUp, Unreadable> {
-    let kind = words.next().ok_or(Unreadable)?;
-    Ok(SetUp {
-        kind: KindOfShare::named(kind).ok_or(Unreadable)?,
-        rows: number(words)?,
-        quota: number(words)?,
-        term: number(words)?,
-        chain: number(words)?,
-    })
-}
-
-// The numbers of a call.
-fn read_call(name: &str, words: &mut SplitWhitespace) -> Result<Call, Unreadable> {
-    Ok(match name {
-        "open" => Call::Open {
-            resource: number(words)?,
-            holder: number(words)?,
-        },
-        "delegate" => Call::Delegate {
-            lender: number(words)?,
-            holder: number(words)?,
-            due: number(words)?,
-        },
-        "yield" => Call::Yield {
-            lease: number(words)?,
-        },
-        "merge" => Call::Merge {
-            a: number(words)?,
-            b: number(words)?,
-        },
-        "assign" => Call::Assign {
-            lease: number(words)?,
-            holder: number(words)?,
-        },
-        "set_day" => Call::SetDay {
-            day: number(words)?,
-        },
-        "count" => Call::Count,
-        "issued" => Call::Issued,
-        "today" => Call::Today,
-        "lease" => Call::LeaseOf {
-            number: number(words)?,
-        },
-        "lease_at" => Call::LeaseAt {
-            position: number(words)?,
-        },
-        _ => return Err(Unreadable),
-    })
-}
-
-// The next word, as a number.
-fn number(words: &mut SplitWhitespace) -> Result<u16, Unreadable> {
-    Ok(words.next().ok_or(Unreadable)?.parse()?)
+// The next word.
+fn next<'a>(words: &mut SplitWhitespace<'a>) -> Result<&'a str, Unreadable> {
+    words.next().ok_or(Unreadable)
 }
