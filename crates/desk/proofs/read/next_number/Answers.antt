@@ -1,4 +1,4 @@
-use Rattle.std.proofs.Common.{◌≡◌, ℕ, [], ◌∷◌, arith, refl, ap, sym, ◌∙◌, Ok, Some}
+use Rattle.std.proofs.Common.{[], ◌∷◌, arith, refl, ap, ◌∙◌, Ok, Some}
 use Rattle.std.proofs.lemmas.Fmt.{parse-decimal}
 use Rattle.std.specs.Str.Iter.{split_whitespace_rest}
 use Rattle.desk.proofs.Pieces.{number_off, number_left, none_off, not_ok, same_value}

@@ -1,4 +1,4 @@
-use Rattle.std.proofs.Common.{◌≡◌, ℕ, [], ◌∷◌, ap, sym, ◌∙◌, Ok, drop}
+use Rattle.std.proofs.Common.{[], ◌∷◌, ap, ◌∙◌, drop}
 use Rattle.desk.specs.Written.{numbers_of, first}
 use Rattle.desk.proofs.Pieces.{name_off, name_left, none_off, not_ok, same_value, no_fourth, Fit-drop}
 use Rattle.desk.proofs.read.CallFromStr.from_str.Goals as goal
