@@ -4,7 +4,7 @@ use Rattle.std.specs.Fmt.{decimal}
 use Rattle.desk.specs.declared.call.Call.{Call}
 use Rattle.desk.specs.declared.call.Call.TheVariants.{Open, Delegate, Yield, Merge, Assign, SetDay, Count, Issued, Today, LeaseAt, LeaseOf}
 
--- its name
+-- the name of a call
 abbrev pub name_of : Call → List ℕ
 name_of (Open resource holder) = codes "open"
 name_of (Delegate lender holder due) = codes "delegate"
@@ -18,7 +18,7 @@ name_of Today = codes "today"
 name_of (LeaseAt position) = codes "lease_at"
 name_of (LeaseOf n) = codes "lease"
 
--- its numbers
+-- the numbers of a call
 abbrev pub numbers_of : Call → List ℕ
 numbers_of (Open resource holder) = resource ∷ holder ∷ []
 numbers_of (Delegate lender holder due) = lender ∷ holder ∷ due ∷ []
@@ -40,7 +40,7 @@ numbered numbers = flat_map (λ n. codes " " ++ decimal n) numbers
 abbrev pub written : Call → List ℕ
 written call = name_of call ++ numbered (numbers_of call)
 
--- numbers of 16 bits
+-- numbers of 16 bits, as the code has them
 abbrev pub Fit : List ℕ → Type 0
 Fit numbers = All (λ n. n < 2 ^ 16) numbers
 

@@ -30,7 +30,7 @@ impl From<ParseIntError> for NotACall {
     }
 }
 
-// Reads a call: its name and its numbers, with blanks before, between and after them as one likes.
+// Reads a call: its name and its numbers, with white space between them.
 impl FromStr for Call {
     type Err = NotACall;
 
@@ -53,7 +53,7 @@ impl FromStr for Call {
 
 // The next word as a number, if there is one.
 fn next_number(words: &mut SplitWhitespace) -> Result<Option<u16>, NotACall>
-    ensures { (ns : List ℕ) → Fit ns → split_whitespace_rest words.old ≡ numbered ns → (result ≡ Ok (first ns)) × (split_whitespace_rest words.new ≡ numbered (drop 1 ns)) }
+    ensures { (numbers : List ℕ) → Fit numbers → split_whitespace_rest words.old ≡ numbered numbers → (result ≡ Ok (first numbers)) × (split_whitespace_rest words.new ≡ numbered (drop 1 numbers)) }
 {
     match words.next() {
         None => Ok(None),
