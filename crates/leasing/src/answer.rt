@@ -1,15 +1,12 @@
 // Making calls, and printing what comes of them.
 use crate::read::{Line, SetUp, Unreadable};
 use crate::show::{print_answer, print_roll};
-use chain::Chain;
 use desk::{Call, make};
 use layer::Layer;
 use ledger::Ledger;
-use lending::{Lease, MOST_ROWS};
+use lending::Lease;
 use office::Office;
-use quota::Quota;
 use shares::Printed;
-use term::Term;
 
 // Sets up an office, and makes the calls to it.
 pub(crate) fn serve<S: Printed>(
@@ -17,15 +14,7 @@ pub(crate) fn serve<S: Printed>(
     office: SetUp,
     lines: &[Result<Line, Unreadable>],
 ) -> anyhow::Result<()> {
-    let name = office.kind.name();
-    let used = usize::from(office.rows).min(MOST_ROWS);
-    let SetUp {
-        quota,
-        term,
-        chain,
-        ..
-    } = office;
-    println!(rt; "an office of {name}, {used} rows, quota {quota}, term {term}, chain {chain}")?;
+    println!(rt; "{office}")?;
     let free = Lease {
         number: 0,
         resource: 0,
@@ -45,19 +34,9 @@ fn serve_over<S: Printed, O: Office<Kind = S> + Drop>(
     office: SetUp,
     lines: &[Result<Line, Unreadable>],
 ) -> anyhow::Result<()> {
-    let chain = Layer::new(
-        below,
-        Chain {
-            limit: office.chain,
-        },
-    );
-    let term = Layer::new(chain, Term { days: office.term });
-    let mut pile = Layer::new(
-        term,
-        Quota {
-            limit: office.quota,
-        },
-    );
+    let chain = Layer::new(below, office.chain);
+    let term = Layer::new(chain, office.term);
+    let mut pile = Layer::new(term, office.quota);
     for line in lines {
         match line {
             Ok(Line::Call(call)) => answer(rt, &mut pile, *call)?,

@@ -1,18 +1,37 @@
 // Reading lines.
+use chain::Chain;
 use desk::{Call, NotACall};
-use kinds::{KIND_NAMES, KindOfShare};
+use kinds::{KIND_NAMES, KindOfShare, NoSuchKind};
+use lending::MOST_ROWS;
+use quota::Quota;
 use std::fmt;
 use std::num::ParseIntError;
 use std::str::{FromStr, SplitWhitespace};
+use term::Term;
 
 // An office to set up: Quota on Term on Chain on a ledger with so many rows, for a kind of share.
 #[derive(Clone, Copy, Drop)]
 pub(crate) struct SetUp {
     pub(crate) kind: KindOfShare,
     pub(crate) rows: u16,
-    pub(crate) quota: u16,
-    pub(crate) term: u16,
-    pub(crate) chain: u16,
+    pub(crate) quota: Quota,
+    pub(crate) term: Term,
+    pub(crate) chain: Chain,
+}
+
+// The office as it is set up, with the rows that its ledger uses.
+impl fmt::Display for SetUp {
+    fn fmt<W: fmt::Write>(&self, f: &mut fmt::Formatter<W>) -> fmt::Result {
+        let kind = self.kind;
+        let used = usize::from(self.rows).min(MOST_ROWS);
+        let Quota { limit: quota } = self.quota;
+        let Term { days } = self.term;
+        let Chain { limit: chain } = self.chain;
+        write!(
+            f,
+            "an office of {kind}, {used} rows, quota {quota}, term {days}, chain {chain}"
+        )
+    }
 }
 
 // What a line asks for.
@@ -32,6 +51,12 @@ impl fmt::Display for Unreadable {
             f,
             "expected: office KIND ROWS QUOTA TERM CHAIN (KIND is {KIND_NAMES}), or a call to that office: open RESOURCE HOLDER, delegate LENDER HOLDER DUE, yield LEASE, merge A B, assign LEASE HOLDER, set_day DAY, count, issued, today, lease NUMBER or lease_at POSITION"
         )
+    }
+}
+
+impl From<NoSuchKind> for Unreadable {
+    fn from(_error: NoSuchKind) -> Unreadable {
+        Unreadable
     }
 }
 
@@ -62,11 +87,17 @@ impl FromStr for SetUp {
             return Err(Unreadable);
         }
         let office = SetUp {
-            kind: KindOfShare::named(next(&mut words)?).ok_or(Unreadable)?,
+            kind: next(&mut words)?.parse()?,
             rows: next(&mut words)?.parse()?,
-            quota: next(&mut words)?.parse()?,
-            term: next(&mut words)?.parse()?,
-            chain: next(&mut words)?.parse()?,
+            quota: Quota {
+                limit: next(&mut words)?.parse()?,
+            },
+            term: Term {
+                days: next(&mut words)?.parse()?,
+            },
+            chain: Chain {
+                limit: next(&mut words)?.parse()?,
+            },
         };
         match words.next() {
             None => Ok(office),

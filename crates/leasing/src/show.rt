@@ -2,8 +2,7 @@
 use desk::{Answer, Call, count, issued, lease_at, today};
 use lending::{Lease, Refusal};
 use office::Office;
-use shares::{Printed, text_of};
-use std::alloc::{AllocError, Global};
+use shares::{Printed, Text};
 use std::fmt;
 
 // The answer to a call. A number in answer to a call that isn't a question is that of the lease that was issued.
@@ -19,7 +18,7 @@ pub(crate) fn print_answer<S: Printed>(
             _ => println!(rt; "  {n}")?,
         },
         Ok(Answer::Lease(lease)) => {
-            let entry = Entry::of(rt.alloc(), lease)?;
+            let entry = Entry(lease);
             println!(rt; "  {entry}")?;
         }
         Err(Refusal { reason, level }) => {
@@ -40,25 +39,15 @@ pub(crate) fn print_roll<S: Printed, O: Office<Kind = S>>(
     let live = count(office);
     println!(rt; "  today is day {day}, {numbers} issued, {live} live")?;
     for lease in (0..live).filter_map(|position| lease_at(office, position).ok()) {
-        let entry = Entry::of(rt.alloc(), lease)?;
+        let entry = Entry(lease);
         println!(rt; "    {entry}")?;
     }
     Ok(())
 }
 
-// A lease, with the text of its share.
+// A lease as it prints.
 #[derive(Drop)]
-struct Entry<S: Printed> {
-    lease: Lease<S>,
-    share: String,
-}
-
-impl<S: Printed> Entry<S> {
-    fn of(heap: Global, lease: Lease<S>) -> Result<Entry<S>, AllocError> {
-        let share = text_of(heap, lease.share)?;
-        Ok(Entry { lease, share })
-    }
-}
+struct Entry<S>(Lease<S>);
 
 impl<S: Printed> fmt::Display for Entry<S> {
     fn fmt<W: fmt::Write>(&self, f: &mut fmt::Formatter<W>) -> fmt::Result {
@@ -68,8 +57,9 @@ impl<S: Printed> fmt::Display for Entry<S> {
             holder,
             lender,
             due,
-            ..
-        } = self.lease;
+            share,
+        } = self.0;
+        let text = Text(share);
         write!(
             f,
             "lease {number}: resource {resource}, holder {holder}, lent by "
@@ -79,7 +69,6 @@ impl<S: Printed> fmt::Display for Entry<S> {
         } else {
             write!(f, "lease {lender} until day {due}")?;
         }
-        let share = self.share.as_str();
-        write!(f, ", share {share}")
+        write!(f, ", share {text}")
     }
 }
