@@ -1,4 +1,4 @@
--- What a layer passes on and up: a number that the office below answered, or its refusal raised.
+-- What a layer passes on and up.
 use Rattle.std.proofs.Common.{◌≡◌, ℕ, List, Ok, Err, None, Option, Result, sym, subst, ap}
 use Rattle.std.specs.Result.{MatchResult, IsErrAnd}
 use Rattle.shares.specs.Kind.{Kind}
@@ -7,27 +7,36 @@ use Rattle.lending.specs.declared.refusal.Refusal.{Refusal}
 use Rattle.lending.specs.Office.{State, Request}
 use Rattle.lending.specs.Office.Request.{opening, delegating}
 use Rattle.lending.specs.Outcome.{Call, Answer}
-use Rattle.lending.specs.Outcome.Call.{open_resource, delegate}
+use Rattle.lending.specs.Outcome.Call.{open_resource, delegate, merge}
 use Rattle.lending.specs.Perform.{Does}
 use Rattle.lending.specs.Layers.{Passes, layered, passed_up}
-use Rattle.lending.specs.Told.{raised, told_number}
+use Rattle.lending.specs.Told.{raised, told, told_number}
 use Rattle.lending.proofs.Layering.{layer_is_office}
 
 -- q is r, its refusal raised
-abbrev pub Raised : Result ℕ Refusal → Result ℕ Refusal → Type 0
-Raised r q = MatchResult r (λ n. q ≡ Ok n) (λ f. IsErrAnd q (λ g. g ≡ raised f))
+abbrev pub Raised : {T : Type 0} → Result T Refusal → Result T Refusal → Type 0
+Raised r q = MatchResult r (λ x. q ≡ Ok x) (λ f. IsErrAnd q (λ g. g ≡ raised f))
+
+module _ {S : Type 0} where
+  number_up : (r q : Result ℕ Refusal) → Raised r q → told_number {S = S} q ≡ passed_up (told_number r)
+  number_up (Ok n) q e = ap told_number e
+  number_up (Err f) (Ok n) e = absurd e
+  number_up (Err f) (Err g) e = ap (λ h. told_number (Err h)) e
+
+  done_up : (r q : Result (Unit {0}) Refusal) → Raised r q → told {S = S} q ≡ passed_up (told r)
+  done_up (Ok x) q e = ap told e
+  done_up (Err f) (Ok x) e = absurd e
+  done_up (Err f) (Err g) e = ap (λ h. told (Err h)) e
 
 module _ {S : Type 0} (K : Kind S) (mine : List (Lease S) → ℕ → Request → Option ℕ) (s t : State S) where
-  number_up : (c : Call) (r q : Result ℕ Refusal) → Raised r q → Passes (mine s.core.roll s.core.today) c → Does K s c (told_number r) t → Does K (layered mine s) c (told_number q) (layered mine t)
-  number_up c r q e pass d = subst (λ (a : Answer S). Does K (layered mine s) c a (layered mine t)) (sym (go r q e)) (layer_is_office K mine s t c (told_number r) pass d)
-    where
-      go : (r q : Result ℕ Refusal) → Raised r q → told_number {S = S} q ≡ passed_up (told_number r)
-      go (Ok n) q e = ap told_number e
-      go (Err f) (Ok n) e = absurd e
-      go (Err f) (Err g) e = ap (λ h. told_number (Err h)) e
+  up : (c : Call) (a b : Answer S) → b ≡ passed_up a → Passes (mine s.core.roll s.core.today) c → Does K s c a t → Does K (layered mine s) c b (layered mine t)
+  up c a b e pass d = subst (λ (x : Answer S). Does K (layered mine s) c x (layered mine t)) (sym e) (layer_is_office K mine s t c a pass d)
 
   pub opened : (resource holder : ℕ) (r q : Result ℕ Refusal) → Raised r q → None ≡ mine s.core.roll s.core.today (opening resource holder) → Does K s (open_resource resource holder) (told_number r) t → Does K (layered mine s) (open_resource resource holder) (told_number q) (layered mine t)
-  opened resource holder r q e none = number_up (open_resource resource holder) r q e (sym none)
+  opened resource holder r q e none = up (open_resource resource holder) (told_number r) (told_number q) (number_up r q e) (sym none)
 
   pub delegated : (lender holder due : ℕ) (r q : Result ℕ Refusal) → Raised r q → None ≡ mine s.core.roll s.core.today (delegating lender holder due) → Does K s (delegate lender holder due) (told_number r) t → Does K (layered mine s) (delegate lender holder due) (told_number q) (layered mine t)
-  delegated lender holder due r q e none = number_up (delegate lender holder due) r q e (sym none)
+  delegated lender holder due r q e none = up (delegate lender holder due) (told_number r) (told_number q) (number_up r q e) (sym none)
+
+  pub merged : (a b : ℕ) (r q : Result (Unit {0}) Refusal) → Raised r q → Does K s (merge a b) (told r) t → Does K (layered mine s) (merge a b) (told q) (layered mine t)
+  merged a b r q e = up (merge a b) (told r) (told q) (done_up r q e) tt

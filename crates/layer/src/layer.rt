@@ -88,6 +88,7 @@ impl<O: Office, R: Rule<O>> Office for Layer<O, R> {
         self.below.yield_lease(lease).map_err(Refusal::raised)
     }
 
+    #[tactic(auto, using(crate::proofs::Passing::merged))]
     fn merge(&mut self, a: u16, b: u16) -> Result<(), Refusal> {
         self.below.merge(a, b).map_err(Refusal::raised)
     }
