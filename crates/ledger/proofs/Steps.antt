@@ -33,6 +33,7 @@ module _ {S : Type 0} where
         let roll = take l.count l.rows.now in
         orderly_so roll (change n f roll) _ l.issued l.issued l.orderly (change_found n 0 roll x f (rises l) e) (orderly_change n f s roll l.issued)
 
+    -- and then the ledger stands for the roll with that lease changed
     pub rewrote : (now : Ledger S) (n : ℕ) (x : Lease S) (f : Lease S → Lease S) → find (take l.count l.rows.now) n ≡ Some x → (y : Lease S) → y ≡ f x → y.number ≡ n → Stands now l (over (change y.number (λ o. y)) (means l).core) → Stands now l (over (change n f) (means l).core)
     rewrote now n x f e y is named s =
         let roll = take l.count l.rows.now in
