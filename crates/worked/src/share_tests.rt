@@ -72,12 +72,7 @@ fn readers_come_back_to_their_source(rt: HostRuntime) -> Result<(), Fail> {
     let four = join_all(&[three, reader]).ok_or(Missing::Join)?;
     assert!(rt; prints(source, b"s3"));
     assert!(rt; prints(three, b"r3"));
-    assert!(rt;
-        source
-            .join(three)
-            .ok_or(Missing::Join)?
-             == Counting::whole()
-    );
+    assert!(rt; source.join(three).ok_or(Missing::Join)? == Counting::whole());
     assert!(rt; source.join(four).is_none());
     Ok(())
 }

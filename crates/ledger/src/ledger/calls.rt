@@ -93,14 +93,14 @@ impl<'a, S: Share> Office for Ledger<'a, S> {
         if self.bad_due(lease, due) {
             return Err(Reason::DueDay.into());
         }
-        let (kept, lent) = lease.share.halve().ok_or(Reason::DoesNotHalve)?;
+        let halves = lease.share.halve().ok_or(Reason::DoesNotHalve)?;
         if self.issued == MOST_NUMBERS {
             return Err(Reason::NumbersUsedUp.into());
         }
         if self.full() {
             return Err(Reason::NoRowFree.into());
         }
-        Ok(self.lend(lease, holder, due, kept, lent))
+        Ok(self.lend(lease, holder, due, halves.0, halves.1))
     }
 
     fn yield_lease(&mut self, lease: u16) -> Result<(), Refusal> {
