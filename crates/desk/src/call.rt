@@ -46,7 +46,7 @@ impl fmt::Display for Call {
 }
 
 // What an office answers to a call that it grants, or to a question.
-#[derive(Clone, Copy)]
+#[derive(Clone, Copy, PartialEq, Eq, Debug)]
 pub enum Answer<S> {
     Done,
     Number(usize),

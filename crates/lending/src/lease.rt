@@ -1,5 +1,5 @@
 // A lease: what a holder has of a resource, from which lender, and until when.
-#[derive(Clone, Copy)]
+#[derive(Clone, Copy, PartialEq, Eq, Debug)]
 pub struct Lease<S> {
     // the number by which calls name the lease
     pub number: u16,

@@ -4,13 +4,6 @@ use shares::{Printed, Share, join_all};
 use std::test::Fail;
 use trees::Trees;
 
-// What a test didn't get.
-#[derive(Debug, Drop)]
-enum Missing {
-    Halves,
-    Join,
-}
-
 // Whether a share has this text.
 pub(crate) fn prints<S: Printed>(share: S, text: &[u8]) -> bool {
     let mut space = [0u8; 190];
@@ -29,7 +22,7 @@ fn kept<S: Share>(share: S, times: u16) -> Option<S> {
 
 #[test]
 fn the_whole_tree_halves(rt: HostRuntime) -> Result<(), Fail> {
-    let halves = Trees::whole().halve().ok_or(Missing::Halves)?;
+    let halves = Trees::whole().halve().ok_or("no halves")?;
     assert!(rt; prints(Trees::whole(), b"1"));
     assert!(rt; prints(halves.0, b"(10)"));
     assert!(rt; prints(halves.1, b"(01)"));
@@ -38,8 +31,8 @@ fn the_whole_tree_halves(rt: HostRuntime) -> Result<(), Fail> {
 
 #[test]
 fn the_upper_half_halves(rt: HostRuntime) -> Result<(), Fail> {
-    let upper = Trees::whole().halve().ok_or(Missing::Halves)?.1;
-    let halves = upper.halve().ok_or(Missing::Halves)?;
+    let upper = Trees::whole().halve().ok_or("no halves")?.1;
+    let halves = upper.halve().ok_or("no halves")?;
     assert!(rt; prints(halves.0, b"(0(10))"));
     assert!(rt; prints(halves.1, b"(0(01))"));
     Ok(())
@@ -47,9 +40,9 @@ fn the_upper_half_halves(rt: HostRuntime) -> Result<(), Fail> {
 
 #[test]
 fn a_half_and_a_quarter_join(rt: HostRuntime) -> Result<(), Fail> {
-    let halves = Trees::whole().halve().ok_or(Missing::Halves)?;
-    let quarter = halves.1.halve().ok_or(Missing::Halves)?.0;
-    let joined = halves.0.join(quarter).ok_or(Missing::Join)?;
+    let halves = Trees::whole().halve().ok_or("no halves")?;
+    let quarter = halves.1.halve().ok_or("no halves")?.0;
+    let joined = halves.0.join(quarter).ok_or("no join")?;
     assert!(rt; prints(joined, b"(1(10))"));
     assert!(rt; halves.0.join(halves.0).is_none());
     Ok(())
@@ -57,7 +50,7 @@ fn a_half_and_a_quarter_join(rt: HostRuntime) -> Result<(), Fail> {
 
 #[test]
 fn one_cell_does_not_halve(rt: HostRuntime) -> Result<(), Fail> {
-    let cell = kept(Trees::whole(), 6).ok_or(Missing::Halves)?;
+    let cell = kept(Trees::whole(), 6).ok_or("no halves")?;
     assert!(rt; prints(cell, b"((((((10)0)0)0)0)0)"));
     assert!(rt; cell.halve().is_none());
     assert!(rt; Trees::empty().halve().is_none());
@@ -66,21 +59,21 @@ fn one_cell_does_not_halve(rt: HostRuntime) -> Result<(), Fail> {
 
 #[test]
 fn readers_come_back_to_their_source(rt: HostRuntime) -> Result<(), Fail> {
-    let reader = Counting::whole().halve().ok_or(Missing::Halves)?.1;
-    let source = kept(Counting::whole(), 3).ok_or(Missing::Halves)?;
-    let three = join_all(&[reader, reader, reader]).ok_or(Missing::Join)?;
-    let four = join_all(&[three, reader]).ok_or(Missing::Join)?;
+    let reader = Counting::whole().halve().ok_or("no halves")?.1;
+    let source = kept(Counting::whole(), 3).ok_or("no halves")?;
+    let three = join_all(&[reader, reader, reader]).ok_or("no join")?;
+    let four = join_all(&[three, reader]).ok_or("no join")?;
     assert!(rt; prints(source, b"s3"));
     assert!(rt; prints(three, b"r3"));
-    assert!(rt; source.join(three).ok_or(Missing::Join)? == Counting::whole());
+    assert!(rt; source.join(three).ok_or("no join")? == Counting::whole());
     assert!(rt; source.join(four).is_none());
     Ok(())
 }
 
 #[test]
 fn a_source_gives_out_4095_readers(rt: HostRuntime) -> Result<(), Fail> {
-    let source = kept(Counting::whole(), 4094).ok_or(Missing::Halves)?;
-    let halves = source.halve().ok_or(Missing::Halves)?;
+    let source = kept(Counting::whole(), 4094).ok_or("no halves")?;
+    let halves = source.halve().ok_or("no halves")?;
     assert!(rt; prints(source, b"s4094"));
     assert!(rt; prints(halves.0, b"s4095"));
     assert!(rt; prints(halves.1, b"r1"));
@@ -90,9 +83,9 @@ fn a_source_gives_out_4095_readers(rt: HostRuntime) -> Result<(), Fail> {
 
 #[test]
 fn one_reader_does_not_halve(rt: HostRuntime) -> Result<(), Fail> {
-    let reader = Counting::whole().halve().ok_or(Missing::Halves)?.1;
-    let two = reader.join(reader).ok_or(Missing::Join)?;
-    let halves = two.halve().ok_or(Missing::Halves)?;
+    let reader = Counting::whole().halve().ok_or("no halves")?.1;
+    let two = reader.join(reader).ok_or("no join")?;
+    let halves = two.halve().ok_or("no halves")?;
     assert!(rt; prints(halves.0, b"r1"));
     assert!(rt; prints(halves.1, b"r1"));
     assert!(rt; reader.halve().is_none());
@@ -115,7 +108,7 @@ fn every_second(block: Trees, depth: u8) -> Option<Trees> {
 #[test]
 fn the_longest_text_has_190_bytes(rt: HostRuntime) -> Result<(), Fail> {
     let mut space = [b'.'; 190];
-    let share = every_second(Trees::whole(), 5).ok_or(Missing::Join)?;
+    let share = every_second(Trees::whole(), 5).ok_or("no join")?;
     assert_eq!(rt; share.write(&mut space), 190);
     assert_eq!(rt; space[0], b'(');
     assert_eq!(rt; space[189], b')');
@@ -127,7 +120,7 @@ fn bytes_after_a_text_stay(rt: HostRuntime) -> Result<(), Fail> {
     let mut space = [b'.'; 190];
     let length = Trees::whole()
         .halve()
-        .ok_or(Missing::Halves)?
+        .ok_or("no halves")?
         .0
         .write(&mut space);
     assert_eq!(rt; length, 4);
