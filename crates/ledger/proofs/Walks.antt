@@ -11,21 +11,17 @@ use Rattle.std.proofs.lemmas.Bool.{ne_eqb, leb-true}
 use Rattle.std.proofs.lemmas.List.Sorted.{IsPartitionPoint-from_clause, IsPartitionedBy-leb}
 use Rattle.lending.specs.declared.lease.Lease.{Lease}
 use Rattle.lending.specs.Orderly.{Orderly}
-use Rattle.lending.specs.Roll.{some_is, lends}
+use Rattle.lending.specs.Roll.{lends}
 use Rattle.lending.proofs.Order.{orderly_rises}
 use Rattle.ledger.proofs.Places.{numbers_rise}
 
 module _ {A : Type 0} (p : A → Bool) where
-  pub any_some : (xs : List A) → list_any p xs ≡ some_is p xs
-  any_some [] = refl
-  any_some (x ∷ xs) = ap (λ b. p x || b) (any_some xs)
-
   -- where the first k fail, the others decide
-  pub some_after : (xs : List A) (k : ℕ) → ((j : ℕ) (d : A) → j < k → j < length xs → p (get_or xs j d) ≡ false) → some_is p (drop k xs) ≡ some_is p xs
+  pub some_after : (xs : List A) (k : ℕ) → ((j : ℕ) (d : A) → j < k → j < length xs → p (get_or xs j d) ≡ false) → list_any p (drop k xs) ≡ list_any p xs
   some_after [] zero h = refl
   some_after [] (suc k) h = refl
   some_after (x ∷ xs) zero h = refl
-  some_after (x ∷ xs) (suc k) h = some_after xs k (λ j d l m. h (suc j) d (omega arith) (omega arith)) ∙ ap (λ b. b || some_is p xs) (sym (h 0 x (omega arith) (omega arith)))
+  some_after (x ∷ xs) (suc k) h = some_after xs k (λ j d l m. h (suc j) d (omega arith) (omega arith)) ∙ ap (λ b. b || list_any p xs) (sym (h 0 x (omega arith) (omega arith)))
 
 module _ {S : Type 0} where
   mem_at : (xs : List (Lease S)) (j : ℕ) (d : Lease S) → j < length xs → Memᴰ (get_or xs j d) xs

@@ -27,9 +27,10 @@ pub struct Ledger<'a, S> {
 
 impl<'a, S: Share> Ledger<'a, S> {
     ghost use Rattle.std.specs.Prelude.{◌+◌, ◌<◌, ◌++◌, [], ◌∷◌, true, false, Some, IfSome};
+    ghost use Rattle.std.specs.List.{list_any};
     ghost use Rattle.lending.specs.Limits.{within_range};
     ghost use Rattle.lending.specs.Office.{SetUp, new_ledger, issue, with_roll};
-    ghost use Rattle.lending.specs.Roll.{find, is_open, lends, some_is, change, close, with_holder};
+    ghost use Rattle.lending.specs.Roll.{find, is_open, lends, change, close, with_holder};
     ghost use Rattle.lending.specs.Calls.{rows_full, first_lease, lent_out, given_back, merged_into, bad_due_day, due_by, unlike};
     ghost use Rattle.ledger.specs.Rows.{At, Looked};
     ghost use Rattle.ledger.specs.Means.{means, rows_in, Stands};
@@ -98,7 +99,7 @@ impl<'a, S: Share> Ledger<'a, S> {
 
     // Whether a live lease falls due by a day.
     fn falls_due(&self, day: u16) -> bool
-        ensures { result ≡ some_is (due_by day) (means self.now).core.roll }
+        ensures { result ≡ list_any (due_by day) (means self.now).core.roll }
     {
         self.roll().iter().any(|lease| lease.due <= day)
     }

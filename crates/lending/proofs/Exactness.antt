@@ -1,12 +1,13 @@
 -- What the calls' definitions rest on holds in every state that calls reach; and a pile's own states are so reached.
 use Rattle.std.proofs.Common.{◌≡◌, ℕ, zero, suc, ◌+◌, ◌<◌, ◌≤◌, Bool, true, false, cond, not, ◌&&◌, ◌||◌, eqb, ltb, ◌⊎◌, List, [], ◌∷◌, length, Some, None, Option, sym, refl, ap, ◌∙◌, ap₂, inl, inr, ⊎_elim, arith}
+use Rattle.std.specs.List.{list_any}
 use mathlib.Core.List.{Memᴰ}
 use Rattle.std.proofs.lemmas.Bool.{eqb-true, eqb-false, eq-eqb, ne_eqb, cases_Bool, cond-true, cond-false, or_cases, or_parts, or_left, or_right, cases_lt, not-false, leb-true, and_from}
 use Rattle.lending.specs.declared.lease.Lease.{Lease}
 use Rattle.shares.specs.Kind.{Kind, Laws}
 use Rattle.lending.specs.Office.{State, with_today}
 use Rattle.lending.specs.Outcome.{Outcome, answering, and_then, unless}
-use Rattle.lending.specs.Roll.{find, some_is, lends, lenders, lender_then, under, plus}
+use Rattle.lending.specs.Roll.{find, lends, lenders, lender_then, under, plus}
 use Rattle.lending.specs.Calls.{unlike, bad_day, due_by, do_set_day}
 use Rattle.lending.specs.Above.{yields}
 use Rattle.lending.specs.Perform.{perform}
@@ -29,20 +30,20 @@ use Rattle.lending.proofs.Theorem.{kept}
 
 module _ {S : Type 0} (roll : List (Lease S)) (n : ℕ) where
   -- a chain of lenders that reaches n has a lease that n lent
-  pub chain_lent : (k m : ℕ) → some_is (λ x. eqb x n) (lenders k roll m) ≡ true → (y : Lease S) × Memᴰ y roll × (y.lender ≡ n)
+  pub chain_lent : (k m : ℕ) → list_any (λ x. eqb x n) (lenders k roll m) ≡ true → (y : Lease S) × Memᴰ y roll × (y.lender ≡ n)
   chain_lent zero m e = absurd (let z : ◌≡◌ {A = ℕ} 0 1 = cc in omega arith)
   chain_lent (suc k) m e = go (find roll m) refl e (λ x q. chain_lent k x q)
     where
-      go : (o : Option (Lease S)) → find roll m ≡ o → some_is (λ x. eqb x n) (lender_then o (λ x. lenders k roll x)) ≡ true → ((x : ℕ) → some_is (λ y. eqb y n) (lenders k roll x) ≡ true → (y : Lease S) × Memᴰ y roll × (y.lender ≡ n)) → (y : Lease S) × Memᴰ y roll × (y.lender ≡ n)
+      go : (o : Option (Lease S)) → find roll m ≡ o → list_any (λ x. eqb x n) (lender_then o (λ x. lenders k roll x)) ≡ true → ((x : ℕ) → list_any (λ y. eqb y n) (lenders k roll x) ≡ true → (y : Lease S) × Memᴰ y roll × (y.lender ≡ n)) → (y : Lease S) × Memᴰ y roll × (y.lender ≡ n)
       go None f q below = absurd (let z : ◌≡◌ {A = ℕ} 0 1 = cc in omega arith)
       go (Some l) f q below = fin (eqb l.lender 0) q
         where
-          fin : (b : Bool) → some_is (λ x. eqb x n) (cond b [] (l.lender ∷ lenders k roll l.lender)) ≡ true → (y : Lease S) × Memᴰ y roll × (y.lender ≡ n)
+          fin : (b : Bool) → list_any (λ x. eqb x n) (cond b [] (l.lender ∷ lenders k roll l.lender)) ≡ true → (y : Lease S) × Memᴰ y roll × (y.lender ≡ n)
           fin true r = absurd (let z : ◌≡◌ {A = ℕ} 0 1 = cc in omega arith)
-          fin false r = ⊎_elim (λ (w : eqb l.lender n ≡ true). (l, (find_in roll m l f).0, eqb-true l.lender n w)) (λ (w : some_is (λ x. eqb x n) (lenders k roll l.lender) ≡ true). below l.lender w) (or_cases (eqb l.lender n) (some_is (λ x. eqb x n) (lenders k roll l.lender)) r)
+          fin false r = ⊎_elim (λ (w : eqb l.lender n ≡ true). (l, (find_in roll m l f).0, eqb-true l.lender n w)) (λ (w : list_any (λ x. eqb x n) (lenders k roll l.lender) ≡ true). below l.lender w) (or_cases (eqb l.lender n) (list_any (λ x. eqb x n) (lenders k roll l.lender)) r)
 
 module _ {S : Type 0} (K : Kind S) (L : Laws K) (lt : ℕ → Option S) (t : State S) (I : Inv K t.core.roll t.core.issued lt) where
-  under_lent : (l : Lease S) → Memᴰ l t.core.roll → lends t.core.roll l.number ≡ some_is (λ x. under t.core.roll x.number l.number) t.core.roll
+  under_lent : (l : Lease S) → Memᴰ l t.core.roll → lends t.core.roll l.number ≡ list_any (λ x. under t.core.roll x.number l.number) t.core.roll
   unfolding fam
   under_lent l ml = go (lends t.core.roll l.number) refl
     where
@@ -53,23 +54,23 @@ module _ {S : Type 0} (K : Kind S) (L : Laws K) (lt : ℕ → Option S) (t : Sta
           let c : fam K L I l ml x.lender ≡ true = or_left (eqb x.lender l.number) (under t.core.roll x.lender l.number) (eq-eqb x.lender l.number e) in
           sym (ap (λ (w : Bool). w || under t.core.roll x.number l.number) b) ∙ a ∙ ap₂ (λ (u v : Bool). u || v) b c
 
-      go : (b : Bool) → lends t.core.roll l.number ≡ b → b ≡ some_is (λ x. under t.core.roll x.number l.number) t.core.roll
+      go : (b : Bool) → lends t.core.roll l.number ≡ b → b ≡ list_any (λ x. under t.core.roll x.number l.number) t.core.roll
       go true e = let r = some_is_found (λ (x : Lease S). eqb x.lender l.number) t.core.roll e in sym (some_is_true (λ (x : Lease S). under t.core.roll x.number l.number) t.core.roll r.0 r.1 (by_it r.0 r.1 (eqb-true r.0.lender l.number r.2)))
       go false e = sym (some_is_none (λ (x : Lease S). under t.core.roll x.number l.number) t.core.roll (λ x m q. let y = chain_lent t.core.roll l.number x.number x.number q in eqb-false y.0.lender l.number (some_is_false (λ (z : Lease S). eqb z.lender l.number) t.core.roll e y.0 y.1) y.2))
 
   -- the chain of lenders, followed
-  follow : (q : Lease S) (k : ℕ) (l : Lease S) → Memᴰ l t.core.roll → some_is (λ x. eqb x q.number) (lenders k t.core.roll l.number) ≡ true → Under t.core.roll q l
+  follow : (q : Lease S) (k : ℕ) (l : Lease S) → Memᴰ l t.core.roll → list_any (λ x. eqb x q.number) (lenders k t.core.roll l.number) ≡ true → Under t.core.roll q l
   follow q zero l m e = absurd (let z : ◌≡◌ {A = ℕ} 0 1 = cc in omega arith)
-  follow q (suc k) l m e = go (eqb l.lender 0) refl (ap (λ (o : Option (Lease S)). some_is (λ x. eqb x q.number) (lender_then o (λ x. lenders k t.core.roll x))) (sym (in_find 0 t.core.roll I.rising l m)) ∙ e) (λ p mp w. follow q k p mp w)
+  follow q (suc k) l m e = go (eqb l.lender 0) refl (ap (λ (o : Option (Lease S)). list_any (λ x. eqb x q.number) (lender_then o (λ x. lenders k t.core.roll x))) (sym (in_find 0 t.core.roll I.rising l m)) ∙ e) (λ p mp w. follow q k p mp w)
     where
-      go : (b : Bool) → eqb l.lender 0 ≡ b → some_is (λ x. eqb x q.number) (cond (eqb l.lender 0) [] (l.lender ∷ lenders k t.core.roll l.lender)) ≡ true → ((p : Lease S) → Memᴰ p t.core.roll → some_is (λ x. eqb x q.number) (lenders k t.core.roll p.number) ≡ true → Under t.core.roll q p) → Under t.core.roll q l
-      go true z r below = absurd (let y : some_is (λ x. eqb x q.number) [] ≡ true = ap (λ (b : Bool). some_is (λ x. eqb x q.number) (cond b [] (l.lender ∷ lenders k t.core.roll l.lender))) (sym z) ∙ r in let w : ◌≡◌ {A = ℕ} 0 1 = cc in omega arith)
+      go : (b : Bool) → eqb l.lender 0 ≡ b → list_any (λ x. eqb x q.number) (cond (eqb l.lender 0) [] (l.lender ∷ lenders k t.core.roll l.lender)) ≡ true → ((p : Lease S) → Memᴰ p t.core.roll → list_any (λ x. eqb x q.number) (lenders k t.core.roll p.number) ≡ true → Under t.core.roll q p) → Under t.core.roll q l
+      go true z r below = absurd (let y : list_any (λ x. eqb x q.number) [] ≡ true = ap (λ (b : Bool). list_any (λ x. eqb x q.number) (cond b [] (l.lender ∷ lenders k t.core.roll l.lender))) (sym z) ∙ r in let w : ◌≡◌ {A = ℕ} 0 1 = cc in omega arith)
       go false z r below =
-          let y : (eqb l.lender q.number || some_is (λ x. eqb x q.number) (lenders k t.core.roll l.lender)) ≡ true = ap (λ (b : Bool). some_is (λ x. eqb x q.number) (cond b [] (l.lender ∷ lenders k t.core.roll l.lender))) (sym z) ∙ r in
+          let y : (eqb l.lender q.number || list_any (λ x. eqb x q.number) (lenders k t.core.roll l.lender)) ≡ true = ap (λ (b : Bool). list_any (λ x. eqb x q.number) (cond b [] (l.lender ∷ lenders k t.core.roll l.lender))) (sym z) ∙ r in
           let p = I.lender l m (eqb-false l.lender 0 z) in
           ⊎_elim (λ (w : eqb l.lender q.number ≡ true). direct (eqb-true l.lender q.number w))
-          (λ (w : some_is (λ x. eqb x q.number) (lenders k t.core.roll l.lender) ≡ true). through p.its p.among p.is (below p.its p.among (ap (λ (n : ℕ). some_is (λ x. eqb x q.number) (lenders k t.core.roll n)) p.is ∙ w)))
-          (or_cases (eqb l.lender q.number) (some_is (λ x. eqb x q.number) (lenders k t.core.roll l.lender)) y)
+          (λ (w : list_any (λ x. eqb x q.number) (lenders k t.core.roll l.lender) ≡ true). through p.its p.among p.is (below p.its p.among (ap (λ (n : ℕ). list_any (λ x. eqb x q.number) (lenders k t.core.roll n)) p.is ∙ w)))
+          (or_cases (eqb l.lender q.number) (list_any (λ x. eqb x q.number) (lenders k t.core.roll l.lender)) y)
 
   -- one step more from the family of q
   more : (q : Lease S) (mq : Memᴰ q t.core.roll) (l : Lease S) → Memᴰ l t.core.roll → fam K L I q mq l.lender ≡ true → under t.core.roll l.number q.number ≡ true
@@ -115,12 +116,12 @@ module _ {S : Type 0} (K : Kind S) (L : Laws K) (lt : ℕ → Option S) (t : Sta
       g : Granted K L lt 0 (t.core.issued + 1) t ns
       g = day_granted K L lt t I d
 
-      none_due : some_is (due_by d) g.after.core.roll ≡ false
+      none_due : list_any (due_by d) g.after.core.roll ≡ false
       none_due = some_is_none (due_by d) g.after.core.roll (λ x m e. let y = g.from x m in let q = leb-true x.due d e in let w = y.2.due in g.gone y.0.number (in_lapsing K L lt t I d y.0 y.1 (omega arith)) (x, m, y.2.number))
 
       set : do_set_day g.after d ≡ grants done (with_today d g.after)
-      set = cond-false (bad_day g.after d) (refuses (record { number = 13; level = g.after.core.depth })) (unless g.after.core.depth ((some_is (due_by d) g.after.core.roll, 14) ∷ []) (grants done (with_today d g.after))) (ap (λ (k : ℕ). ltb d k || ltb 9999 d) g.same_day ∙ ok)
-          ∙ cond-false (some_is (due_by d) g.after.core.roll) (refuses (record { number = 14; level = g.after.core.depth })) (grants done (with_today d g.after)) none_due
+      set = cond-false (bad_day g.after d) (refuses (record { number = 13; level = g.after.core.depth })) (unless g.after.core.depth ((list_any (due_by d) g.after.core.roll, 14) ∷ []) (grants done (with_today d g.after))) (ap (λ (k : ℕ). ltb d k || ltb 9999 d) g.same_day ∙ ok)
+          ∙ cond-false (list_any (due_by d) g.after.core.roll) (refuses (record { number = 14; level = g.after.core.depth })) (grants done (with_today d g.after)) none_due
 
   -- all under a lease is of its resource
   one_resource : (l : Lease S) (ml : Memᴰ l t.core.roll) (n : ℕ) (x : Lease S) → x.number ≤ n → Memᴰ x t.core.roll → fam K L I l ml x.number ≡ true → x.resource ≡ l.resource

@@ -1,11 +1,12 @@
 -- A lease and all under it come to what it was lent.
 use Rattle.std.proofs.Common.{◌≡◌, ℕ, zero, suc, ◌<◌, ◌≤◌, Bool, true, false, cond, not, ◌&&◌, ◌||◌, eqb, ltb, ◌⊎◌, List, [], ◌∷◌, map, Some, None, Option, sym, refl, ap, ◌∙◌, ap₂, inl, inr, ⊎_elim, arith}
+use Rattle.std.specs.List.{list_any}
 use mathlib.Core.List.{Memᴰ}
 use Rattle.std.proofs.lemmas.Bool.{eqb-true, eq-eqb, ne_eqb, lt-ltb, le-ltb, cases_eq, cases_lt, cond-true, cond-false}
 use Rattle.lending.specs.declared.lease.Lease.{Lease}
 use Rattle.shares.specs.Kind.{Kind, Laws}
 use Rattle.shares.specs.Joins.{JoinTo, together}
-use Rattle.lending.specs.Roll.{find, close, some_is, lenders, lender_then, under, family}
+use Rattle.lending.specs.Roll.{find, close, lenders, lender_then, under, family}
 use Rattle.shares.proofs.Sums.{plus?, nothing, plus_assoc, plus_nothing, nothing_plus}
 use Rattle.lending.proofs.Joins.{joins_every_way}
 use Rattle.lending.proofs.Totals.{total, where_is, total_ext, total_nothing, total_plus, together_keep}
@@ -40,17 +41,17 @@ module _ {S : Type 0} where
         go (Some l) e ih = let q = low_found n l e in ap (λ (w : List ℕ). cond (eqb l.lender 0) [] (l.lender ∷ w)) (ih l.lender (omega arith) (omega arith))
 
     -- what stands above a lease has a lower number
-    pub above_lower : (k n m : ℕ) → m ≤ n → some_is (λ x. eqb x n) (lenders k roll m) ≡ false
+    pub above_lower : (k n m : ℕ) → m ≤ n → list_any (λ x. eqb x n) (lenders k roll m) ≡ false
     above_lower zero n m h = refl
     above_lower (suc k) n m h = go (find roll m) refl (λ x y. above_lower k n x y)
       where
-        go : (o : Option (Lease S)) → find roll m ≡ o → ((x : ℕ) → x ≤ n → some_is (λ y. eqb y n) (lenders k roll x) ≡ false) → some_is (λ y. eqb y n) (lender_then o (λ x. lenders k roll x)) ≡ false
+        go : (o : Option (Lease S)) → find roll m ≡ o → ((x : ℕ) → x ≤ n → list_any (λ y. eqb y n) (lenders k roll x) ≡ false) → list_any (λ y. eqb y n) (lender_then o (λ x. lenders k roll x)) ≡ false
         go None e ih = refl
         go (Some l) e ih = let q = low_found m l e in fin (eqb l.lender 0) (ne_eqb l.lender n (λ w. omega arith)) (ih l.lender (omega arith))
           where
-            fin : (b : Bool) → eqb l.lender n ≡ false → some_is (λ y. eqb y n) (lenders k roll l.lender) ≡ false → some_is (λ y. eqb y n) (cond b [] (l.lender ∷ lenders k roll l.lender)) ≡ false
+            fin : (b : Bool) → eqb l.lender n ≡ false → list_any (λ y. eqb y n) (lenders k roll l.lender) ≡ false → list_any (λ y. eqb y n) (cond b [] (l.lender ∷ lenders k roll l.lender)) ≡ false
             fin true p r = refl
-            fin false p r = ap (λ (c : Bool). c || some_is (λ y. eqb y n) (lenders k roll l.lender)) p ∙ r
+            fin false p r = ap (λ (c : Bool). c || list_any (λ y. eqb y n) (lenders k roll l.lender)) p ∙ r
 
     -- lease m is lease n or under it
     abbrev pub in_family : ℕ → ℕ → Bool
@@ -72,12 +73,12 @@ module _ {S : Type 0} where
             fewer : l.lender ≤ k
             fewer = let q = low l m in omega arith
 
-            first : under roll l.number n ≡ some_is (λ y. eqb y n) (cond (eqb l.lender 0) [] (l.lender ∷ lenders k roll l.lender))
-            first = ap (λ (x : ℕ). under roll x n) e ∙ ap (λ (o : Option (Lease S)). some_is (λ y. eqb y n) (lender_then o (λ x. lenders k roll x))) found
+            first : under roll l.number n ≡ list_any (λ y. eqb y n) (cond (eqb l.lender 0) [] (l.lender ∷ lenders k roll l.lender))
+            first = ap (λ (x : ℕ). under roll x n) e ∙ ap (λ (o : Option (Lease S)). list_any (λ y. eqb y n) (lender_then o (λ x. lenders k roll x))) found
 
             unders : (b : Bool) → eqb l.lender 0 ≡ b → under roll l.number n ≡ in_family n l.lender
-            unders true z = first ∙ ap (λ (c : Bool). some_is (λ y. eqb y n) (cond c [] (l.lender ∷ lenders k roll l.lender))) z ∙ sym (ap (in_family n) (eqb-true l.lender 0 z) ∙ zero_outside n pos)
-            unders false z = first ∙ ap (λ (c : Bool). some_is (λ y. eqb y n) (cond c [] (l.lender ∷ lenders k roll l.lender))) z ∙ ap (λ (w : List ℕ). eqb l.lender n || some_is (λ y. eqb y n) w) (enough k l.lender l.lender fewer (omega arith))
+            unders true z = first ∙ ap (λ (c : Bool). list_any (λ y. eqb y n) (cond c [] (l.lender ∷ lenders k roll l.lender))) z ∙ sym (ap (in_family n) (eqb-true l.lender 0 z) ∙ zero_outside n pos)
+            unders false z = first ∙ ap (λ (c : Bool). list_any (λ y. eqb y n) (cond c [] (l.lender ∷ lenders k roll l.lender))) z ∙ ap (λ (w : List ℕ). eqb l.lender n || list_any (λ y. eqb y n) w) (enough k l.lender l.lender fewer (omega arith))
 
 -- Over part of a roll: a test of numbers that goes down from lenders to leases.
 module _ {S : Type 0} (K : Kind S) (L : Laws K) (lt : ℕ → Option S) (fam : ℕ → Bool) where

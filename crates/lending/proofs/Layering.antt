@@ -1,12 +1,13 @@
 -- A layer over an office is an office.
 use Rattle.std.proofs.Common.{◌≡◌, ℕ, ◌+◌, Bool, true, false, cond, not, eqb, leb, List, [], ◌∷◌, Some, None, Option, sym, refl, ap, ◌∙◌, arith}
+use Rattle.std.specs.List.{list_any}
 use mathlib.Core.Option as maybe
 use lib.ListN.{get_elem?}
 use Rattle.lending.specs.declared.lease.Lease.{Lease}
 use Rattle.shares.specs.Kind.{Kind}
 use Rattle.lending.specs.Office.{Refusal, Request, State, issue, with_roll, with_today}
 use Rattle.lending.specs.Outcome.{Call, Answer, Outcome, unless, unless_objected, need_live, need_halves, tell_at}
-use Rattle.lending.specs.Roll.{find, is_open, lends, change, with_holder, some_is}
+use Rattle.lending.specs.Roll.{find, is_open, lends, change, with_holder}
 use Rattle.lending.specs.Perform.{perform, Ends}
 use Rattle.lending.specs.Limits.{within_range}
 use Rattle.lending.specs.Calls.{numbers_out, rows_full, first_lease, bad_due_day, lent_out, given_back, unlike, merged_into, bad_day, due_by}
@@ -143,7 +144,7 @@ module _ {S : Type 0} where
     ups (yield n) e = up_yield n
     ups (merge a b) e = up_merge a b
     ups (assign n h) e = up_assign n h e
-    ups (new_day d) e = up_unless s.core.depth ((bad_day s d, 13) ∷ (some_is (due_by d) s.core.roll, 14) ∷ []) (grants done (with_today d s)) (grants done (with_today d over)) (grown done (with_today d s) (with_today d over) refl refl)
+    ups (new_day d) e = up_unless s.core.depth ((bad_day s d, 13) ∷ (list_any (due_by d) s.core.roll, 14) ∷ []) (grants done (with_today d s)) (grants done (with_today d over)) (grown done (with_today d s) (with_today d over) refl refl)
     ups ask_count e = up_tells refl
     ups ask_issued e = up_tells refl
     ups ask_today e = up_tells refl

@@ -1,11 +1,12 @@
 -- Every granted call keeps the order of the roll.
 use Rattle.std.proofs.Common.{◌≡◌, ℕ, ◌+◌, ◌<◌, ◌≤◌, Bool, true, false, cond, not, ◌||◌, eqb, ◌⊎◌, List, [], ◌∷◌, ◌++◌, map, Some, sym, refl, ap, ◌∙◌, subst, inl, inr, ⊎_elim, arith}
+use Rattle.std.specs.List.{filter}
 use mathlib.Core.Logic.{∥∥₁_elim}
 use mathlib.Core.List.{Memᴰ}
 use native.Mathlib.Bridge.{le_prop}
 use Rattle.std.proofs.lemmas.Bool.{eqb-true, or_parts, not-false}
 use Rattle.lending.specs.declared.lease.Lease.{Lease}
-use Rattle.lending.specs.Roll.{Rising, find, keep, change, close, relend, with_lender, with_share}
+use Rattle.lending.specs.Roll.{Rising, find, change, close, relend, with_lender, with_share}
 use Rattle.lending.specs.Calls.{unlike}
 use Rattle.lending.specs.Limits.{within_range, never}
 use Rattle.lending.specs.Orderly.{Ranged, Orderly}
@@ -17,7 +18,7 @@ module _ {S : Type 0} where
   pub orderly_none : {issued : ℕ} → Orderly {S = S} [] issued
   orderly_none = record { rising = tt; within = λ l m. elim m [ ]; lower = λ l m. elim m [ ]; dues = λ l p m. elim m [ ]; ranged = λ l m. elim m [ ] }
 
-  pub orderly_keep : (p : Lease S → Bool) (roll : List (Lease S)) (issued : ℕ) → Orderly roll issued → Orderly (keep p roll) issued
+  pub orderly_keep : (p : Lease S → Bool) (roll : List (Lease S)) (issued : ℕ) → Orderly roll issued → Orderly (filter p roll) issued
   orderly_keep p roll issued o = record {
     rising = rising_keep p 0 roll o.rising;
     within = λ l m. o.within l (mem_keep p roll l m).0;

@@ -1,12 +1,13 @@
 -- A recall is granted, and its lender gains what the lease was lent.
 use Rattle.std.proofs.Common.{◌≡◌, ℕ, suc, ◌+◌, ◌<◌, ◌≤◌, Bool, true, false, ◌||◌, eqb, ◌⊎◌, List, [], ◌∷◌, map, Some, Option, sym, refl, ap, ◌∙◌, subst, inl, inr, ⊎_elim, arith}
+use Rattle.std.specs.List.{filter}
 use mathlib.Core.List.{reverse_aux, Memᴰ}
 use Rattle.std.proofs.lemmas.Bool.{eqb-true, eq-eqb, cond-false, or_right, or_cases, cases_lt, leb-true, le-leb}
 use Rattle.lending.specs.declared.lease.Lease.{Lease}
 use Rattle.shares.specs.Kind.{Kind, Laws}
 use Rattle.lending.specs.Office.{State}
 use Rattle.lending.specs.Outcome.{Outcome, unless, need_live, and_then}
-use Rattle.lending.specs.Roll.{find, keep, close, lends, family, under}
+use Rattle.lending.specs.Roll.{find, close, lends, family, under}
 use Rattle.lending.specs.Above.{yields, downward}
 use Rattle.lending.specs.Calls.{do_yield, given_back, due_by}
 use Rattle.lending.specs.Outcome.Answer.{done}
@@ -214,21 +215,21 @@ module _ {S : Type 0} (K : Kind S) (L : Laws K) (lt : ℕ → Option S) (s : Sta
 -- the yields of a day
 module _ {S : Type 0} (K : Kind S) (L : Laws K) (lt : ℕ → Option S) (s : State S) (I : Inv K s.core.roll s.core.issued lt) (d : ℕ) where
   abbrev pub lapsing : List ℕ
-  lapsing = downward (keep (due_by d) s.core.roll)
+  lapsing = downward (filter (due_by d) s.core.roll)
 
   of_lapsing : (m : ℕ) → Memᴰ m lapsing → (x : Lease S) × Memᴰ x s.core.roll × (x.number ≡ m) × (x.due ≤ d)
   of_lapsing m k =
-      let j : Memᴰ m (map (λ x. x.number) (keep (due_by d) s.core.roll)) = ⊎_elim (λ (i : Memᴰ m (map (λ x. x.number) (keep (due_by d) s.core.roll))). i) (λ (i : Memᴰ m []). elim i [ ]) (mem_reverse (map (λ x. x.number) (keep (due_by d) s.core.roll)) [] m k) in
-      let a = mem_map (λ (x : Lease S). x.number) (keep (due_by d) s.core.roll) m j in
+      let j : Memᴰ m (map (λ x. x.number) (filter (due_by d) s.core.roll)) = ⊎_elim (λ (i : Memᴰ m (map (λ x. x.number) (filter (due_by d) s.core.roll))). i) (λ (i : Memᴰ m []). elim i [ ]) (mem_reverse (map (λ x. x.number) (filter (due_by d) s.core.roll)) [] m k) in
+      let a = mem_map (λ (x : Lease S). x.number) (filter (due_by d) s.core.roll) m j in
       let b = mem_keep (due_by d) s.core.roll a.0 a.1 in
       (a.0, b.0, sym a.2, leb-true a.0.due d b.1)
 
   pub in_lapsing : (x : Lease S) → Memᴰ x s.core.roll → x.due ≤ d → Memᴰ x.number lapsing
-  in_lapsing x m e = reverse_mem (map (λ y. y.number) (keep (due_by d) s.core.roll)) [] x.number (inl (map_mem (λ (y : Lease S). y.number) (keep_mem (due_by d) s.core.roll x m (le-leb x.due d e))))
+  in_lapsing x m e = reverse_mem (map (λ y. y.number) (filter (due_by d) s.core.roll)) [] x.number (inl (map_mem (λ (y : Lease S). y.number) (keep_mem (due_by d) s.core.roll x m (le-leb x.due d e))))
 
   pub day_granted : Granted K L lt 0 (s.core.issued + 1) s lapsing
   day_granted = all_granted K L lt 0 (s.core.issued + 1) lapsing (s.core.issued + 1)
-      (falling_reverse 0 (s.core.issued + 1) (keep (due_by d) s.core.roll) [] (rising_keep (due_by d) 0 s.core.roll I.rising) (omega arith) (λ x m. let q = I.within x (mem_keep (due_by d) s.core.roll x m).0 in omega arith) tt)
+      (falling_reverse 0 (s.core.issued + 1) (filter (due_by d) s.core.roll) [] (rising_keep (due_by d) 0 s.core.roll I.rising) (omega arith) (λ x m. let q = I.within x (mem_keep (due_by d) s.core.roll x m).0 in omega arith) tt)
       s (record {
         inv = I;
         live = λ m k. let x = of_lapsing m k in (x.0, x.1, x.2);

@@ -1,12 +1,13 @@
 -- Rolls by rising number: finding, closing and changing a lease.
 use Rattle.std.proofs.Common.{◌≡◌, ℕ, ◌<◌, ◌≤◌, Bool, true, false, cond, not, ◌||◌, eqb, ◌⊎◌, List, [], ◌∷◌, ◌++◌, map, Some, None, Option, sym, refl, ap, ◌∙◌, subst, ap₂, inl, inr, ⊎_elim, arith}
+use Rattle.std.specs.List.{filter, list_any}
 use mathlib.Core.List.Memᴰ
 use mathlib.Core.List.{Memᴰ}
 use Rattle.std.proofs.lemmas.Bool.{eqb-true, eqb-false, eq-eqb, ne_eqb, cond-true, cond-false, not-true, or_cases}
 use Rattle.lending.specs.declared.lease.Lease.{Lease}
 use Rattle.shares.specs.Kind.{Kind, Laws}
 pub use Rattle.lending.specs.Roll.{Rising}
-use Rattle.lending.specs.Roll.{find, keep, change, close, some_is}
+use Rattle.lending.specs.Roll.{find, change, close}
 use Rattle.shares.proofs.Sums.{plus?, plus_swap}
 use Rattle.lending.proofs.Totals.{total, total_ext, total_map}
 
@@ -23,51 +24,51 @@ module _ {A : Type 0} where
   map_mem f (Memᴰ.head e) = Memᴰ.head (ap f e)
   map_mem f (Memᴰ.tail m) = Memᴰ.tail (map_mem f m)
 
-  pub mem_keep : (p : A → Bool) (xs : List A) (x : A) → Memᴰ x (keep p xs) → Memᴰ x xs × (p x ≡ true)
+  pub mem_keep : (p : A → Bool) (xs : List A) (x : A) → Memᴰ x (filter p xs) → Memᴰ x xs × (p x ≡ true)
   mem_keep p [] x m = elim m [ ]
   mem_keep p (y ∷ ys) x m = go (p y) refl m (λ k. mem_keep p ys x k)
     where
-      go : (b : Bool) → p y ≡ b → Memᴰ x (cond b (y ∷ keep p ys) (keep p ys)) → (Memᴰ x (keep p ys) → Memᴰ x ys × (p x ≡ true)) → Memᴰ x (y ∷ ys) × (p x ≡ true)
-      go true e m below = ⊎_elim (λ (q : x ≡ y). (Memᴰ.head q, ap p q ∙ e)) (λ (k : Memᴰ x (keep p ys)). let r = below k in (Memᴰ.tail r.0, r.1)) (Memᴰ.cases_cons m)
+      go : (b : Bool) → p y ≡ b → Memᴰ x (cond b (y ∷ filter p ys) (filter p ys)) → (Memᴰ x (filter p ys) → Memᴰ x ys × (p x ≡ true)) → Memᴰ x (y ∷ ys) × (p x ≡ true)
+      go true e m below = ⊎_elim (λ (q : x ≡ y). (Memᴰ.head q, ap p q ∙ e)) (λ (k : Memᴰ x (filter p ys)). let r = below k in (Memᴰ.tail r.0, r.1)) (Memᴰ.cases_cons m)
       go false e m below = let r = below m in (Memᴰ.tail r.0, r.1)
 
-  pub keep_mem : (p : A → Bool) (xs : List A) (x : A) → Memᴰ x xs → p x ≡ true → Memᴰ x (keep p xs)
+  pub keep_mem : (p : A → Bool) (xs : List A) (x : A) → Memᴰ x xs → p x ≡ true → Memᴰ x (filter p xs)
   keep_mem p [] x m t = elim m [ ]
   keep_mem p (y ∷ ys) x m t = go (p y) refl (Memᴰ.cases_cons m) (λ k. keep_mem p ys x k t)
     where
-      go : (b : Bool) → p y ≡ b → (x ≡ y) ⊎ Memᴰ x ys → (Memᴰ x ys → Memᴰ x (keep p ys)) → Memᴰ x (cond b (y ∷ keep p ys) (keep p ys))
+      go : (b : Bool) → p y ≡ b → (x ≡ y) ⊎ Memᴰ x ys → (Memᴰ x ys → Memᴰ x (filter p ys)) → Memᴰ x (cond b (y ∷ filter p ys) (filter p ys))
       go true e (inl q) below = Memᴰ.head q
       go true e (inr k) below = Memᴰ.tail (below k)
       go false e (inl q) below = absurd (let z : ◌≡◌ {A = ℕ} (cond true 0 1) (cond false 0 1) = ap (λ (b : Bool). cond b 0 1) (sym t ∙ ap p q ∙ e) in omega arith)
       go false e (inr k) below = below k
 
-  pub some_is_false : (p : A → Bool) (xs : List A) → some_is p xs ≡ false → (x : A) → Memᴰ x xs → p x ≡ false
+  pub some_is_false : (p : A → Bool) (xs : List A) → list_any p xs ≡ false → (x : A) → Memᴰ x xs → p x ≡ false
   some_is_false p [] e x m = elim m [ ]
   some_is_false p (y ∷ ys) e x m = go (p y) refl e (Memᴰ.cases_cons m) (λ r k. some_is_false p ys r x k)
     where
-      go : (b : Bool) → p y ≡ b → (b || some_is p ys) ≡ false → (x ≡ y) ⊎ Memᴰ x ys → (some_is p ys ≡ false → Memᴰ x ys → p x ≡ false) → p x ≡ false
+      go : (b : Bool) → p y ≡ b → (b || list_any p ys) ≡ false → (x ≡ y) ⊎ Memᴰ x ys → (list_any p ys ≡ false → Memᴰ x ys → p x ≡ false) → p x ≡ false
       go true q e d below = sym (let z : true ≡ false = e in cc)
       go false q e (inl r) below = ap p r ∙ q
       go false q e (inr k) below = below e k
 
-  pub some_is_true : (p : A → Bool) (xs : List A) (x : A) → Memᴰ x xs → p x ≡ true → some_is p xs ≡ true
+  pub some_is_true : (p : A → Bool) (xs : List A) (x : A) → Memᴰ x xs → p x ≡ true → list_any p xs ≡ true
   some_is_true p [] x m t = elim m [ ]
   some_is_true p (y ∷ ys) x m t = go (p y) refl (Memᴰ.cases_cons m) (λ k. some_is_true p ys x k t)
     where
-      go : (b : Bool) → p y ≡ b → (x ≡ y) ⊎ Memᴰ x ys → (Memᴰ x ys → some_is p ys ≡ true) → (b || some_is p ys) ≡ true
+      go : (b : Bool) → p y ≡ b → (x ≡ y) ⊎ Memᴰ x ys → (Memᴰ x ys → list_any p ys ≡ true) → (b || list_any p ys) ≡ true
       go true e d below = refl
       go false e (inl q) below = let z : p x ≡ p y = ap p q in cc
       go false e (inr k) below = below k
 
-  pub some_is_found : (p : A → Bool) (xs : List A) → some_is p xs ≡ true → (x : A) × Memᴰ x xs × (p x ≡ true)
+  pub some_is_found : (p : A → Bool) (xs : List A) → list_any p xs ≡ true → (x : A) × Memᴰ x xs × (p x ≡ true)
   some_is_found p [] e = absurd (let z : ◌≡◌ {A = ℕ} 0 1 = cc in omega arith)
-  some_is_found p (x ∷ xs) e = ⊎_elim (λ (q : p x ≡ true). (x, Memᴰ.head refl, q)) (λ (q : some_is p xs ≡ true). let r = some_is_found p xs q in (r.0, Memᴰ.tail r.1, r.2)) (or_cases (p x) (some_is p xs) e)
+  some_is_found p (x ∷ xs) e = ⊎_elim (λ (q : p x ≡ true). (x, Memᴰ.head refl, q)) (λ (q : list_any p xs ≡ true). let r = some_is_found p xs q in (r.0, Memᴰ.tail r.1, r.2)) (or_cases (p x) (list_any p xs) e)
 
   -- where none is found it is false
-  pub some_is_none : (p : A → Bool) (xs : List A) → ((x : A) → Memᴰ x xs → p x ≡ true → ⊥) → some_is p xs ≡ false
-  some_is_none p xs h = go (some_is p xs) refl
+  pub some_is_none : (p : A → Bool) (xs : List A) → ((x : A) → Memᴰ x xs → p x ≡ true → ⊥) → list_any p xs ≡ false
+  some_is_none p xs h = go (list_any p xs) refl
     where
-      go : (b : Bool) → some_is p xs ≡ b → b ≡ false
+      go : (b : Bool) → list_any p xs ≡ b → b ≡ false
       go true e = absurd (let r = some_is_found p xs e in h r.0 r.1 r.2)
       go false e = refl
 
@@ -127,13 +128,13 @@ module _ {S : Type 0} where
   pub close_mem : (ls : List (Lease S)) (n : ℕ) (l : Lease S) → Memᴰ l ls → (l.number ≡ n → ⊥) → Memᴰ l (close n ls)
   close_mem ls n l m h = keep_mem (λ (x : Lease S). not (eqb x.number n)) ls l m (ap not (ne_eqb l.number n h))
 
-  pub rising_keep : (p : Lease S → Bool) (lo : ℕ) (ls : List (Lease S)) → Rising lo ls → Rising lo (keep p ls)
+  pub rising_keep : (p : Lease S → Bool) (lo : ℕ) (ls : List (Lease S)) → Rising lo ls → Rising lo (filter p ls)
   rising_keep p lo [] r = tt
   rising_keep p lo (x ∷ xs) r = go (p x) (rising_keep p x.number xs r.1)
     where
-      go : (b : Bool) → Rising x.number (keep p xs) → Rising lo (cond b (x ∷ keep p xs) (keep p xs))
+      go : (b : Bool) → Rising x.number (filter p xs) → Rising lo (cond b (x ∷ filter p xs) (filter p xs))
       go true k = (r.0, k)
-      go false k = rising_lower lo x.number (keep p xs) (let q = r.0 in omega arith) k
+      go false k = rising_lower lo x.number (filter p xs) (let q = r.0 in omega arith) k
 
   -- a change that keeps each number
   pub rising_map : (h : Lease S → Lease S) → ((l : Lease S) → (h l).number ≡ l.number) → (lo : ℕ) (ls : List (Lease S)) → Rising lo ls → Rising lo (map h ls)

@@ -1,5 +1,6 @@
 -- Every call keeps the invariant, and closes as many leases as it answers.
 use Rattle.std.proofs.Common.{◌≡◌, ℕ, ◌+◌, ◌<◌, ◌≤◌, Bool, true, false, cond, not, ◌||◌, eqb, ltb, leb, List, [], ◌∷◌, ◌++◌, length, Some, None, Option, sym, refl, ap, ◌∙◌, subst, ap₂, inl, inr, ⊎_elim, arith, length-append}
+use Rattle.std.specs.List.{filter, list_any}
 use mathlib.Core.List.{Memᴰ}
 use mathlib.Core.Option as maybe
 use lib.ListN.{length-map, get_elem?}
@@ -8,7 +9,7 @@ use Rattle.lending.specs.declared.lease.Lease.{Lease}
 use Rattle.shares.specs.Kind.{Kind, Laws, then}
 use Rattle.lending.specs.Office.{Refusal, State, issue, with_roll, with_today}
 use Rattle.lending.specs.Outcome.{Call, Answer, Outcome, unless, unless_objected, need_live, need_halves, tell_at, and_then, answering}
-use Rattle.lending.specs.Roll.{find, live, keep, change, close, lends, is_open, with_share, with_holder, plus, family, some_is}
+use Rattle.lending.specs.Roll.{find, live, change, close, lends, is_open, with_share, with_holder, plus, family}
 use Rattle.lending.specs.Above.{yields, downward, recall_all}
 use Rattle.lending.specs.Calls.{due_by, do_yield, do_set_day, first_lease, bad_due_day, unlike, lent_out, given_back, merged_into, numbers_out, rows_full, bad_day}
 use Rattle.lending.specs.Perform.{perform}
@@ -307,7 +308,7 @@ module _ {S : Type 0} (K : Kind S) (L : Laws K) where
         }
 
     pub good_set_day : (d : ℕ) → Good s lt (new_day d) (perform K s (new_day d))
-    good_set_day d = by_checks P (λ q. record { is = (I, stay) }) s.core.depth ((bad_day s d, 13) ∷ (some_is (due_by d) s.core.roll, 14) ∷ []) (grants done (with_today d s)) (λ f. record { is = (I, stay) })
+    good_set_day d = by_checks P (λ q. record { is = (I, stay) }) s.core.depth ((bad_day s d, 13) ∷ (list_any (due_by d) s.core.roll, 14) ∷ []) (grants done (with_today d s)) (λ f. record { is = (I, stay) })
       where
         P : Outcome S → Type 0
         P o = Good s lt (new_day d) o
@@ -364,10 +365,10 @@ module _ {S : Type 0} (K : Kind S) (L : Laws K) where
         P o = Good s lt (day d) o
 
         ns : List ℕ
-        ns = downward (keep (due_by d) s.core.roll)
+        ns = downward (filter (due_by d) s.core.roll)
 
         set : (u : State S) → Inv K u.core.roll u.core.issued lt → Closed s u (length ns) → P (answering (number (length ns)) (do_set_day u d))
-        set u J c = by_checks (λ o. P (answering (number (length ns)) o)) (λ q. record { is = (I, stay) }) u.core.depth ((bad_day u d, 13) ∷ (some_is (due_by d) u.core.roll, 14) ∷ []) (grants done (with_today d u)) (λ f. record { is = (J, closed_moves s u (length ns) (closes {S = S} (day d) (number (length ns))) (omega arith) c) })
+        set u J c = by_checks (λ o. P (answering (number (length ns)) o)) (λ q. record { is = (I, stay) }) u.core.depth ((bad_day u d, 13) ∷ (list_any (due_by d) u.core.roll, 14) ∷ []) (grants done (with_today d u)) (λ f. record { is = (J, closed_moves s u (length ns) (closes {S = S} (day d) (number (length ns))) (omega arith) c) })
 
         go : (o : Outcome S) → Yielding s lt (length ns) o → P (answering (number (length ns)) (and_then o (λ t. do_set_day t d)))
         go (refuses r) y = record { is = (I, stay) }

@@ -1,9 +1,9 @@
 -- Totals: what some things come to when each has a share.
 use Rattle.std.proofs.Common.{◌≡◌, Bool, true, false, cond, List, [], ◌∷◌, ◌++◌, map, Some, Option, sym, refl, ap, ◌∙◌, ap₂}
+use Rattle.std.specs.List.{filter}
 use mathlib.Core.List.{Memᴰ}
 use Rattle.shares.specs.Kind.{Kind, Laws}
 use Rattle.shares.specs.Joins.{together}
-use Rattle.lending.specs.Roll.{keep}
 use Rattle.shares.proofs.Sums.{plus?, nothing, plus_comm, plus_assoc, plus_nothing, nothing_plus}
 
 module _ {S A : Type 0} (K : Kind S) where
@@ -38,11 +38,11 @@ module _ {S A : Type 0} (K : Kind S) where
     total_plus f g (x ∷ xs) = ap (plus? K (plus? K (f x) (g x))) (total_plus f g xs) ∙ simp (plus_assoc K L, plus_comm K L)
 
     -- the shares of those that are kept
-    pub together_keep : (p : A → Bool) (f : A → S) (xs : List A) → together K (map f (keep p xs)) ≡ total K (where_is K p (λ x. Some (f x))) xs
+    pub together_keep : (p : A → Bool) (f : A → S) (xs : List A) → together K (map f (filter p xs)) ≡ total K (where_is K p (λ x. Some (f x))) xs
     unfolding plus?
     together_keep p f [] = refl
     together_keep p f (x ∷ xs) = go (together_keep p f xs) (p x)
       where
-        go : together K (map f (keep p xs)) ≡ total K (where_is K p (λ y. Some (f y))) xs → (b : Bool) → together K (map f (cond b (x ∷ keep p xs) (keep p xs))) ≡ plus? K (cond b (Some (f x)) (nothing K)) (total K (where_is K p (λ y. Some (f y))) xs)
+        go : together K (map f (filter p xs)) ≡ total K (where_is K p (λ y. Some (f y))) xs → (b : Bool) → together K (map f (cond b (x ∷ filter p xs) (filter p xs))) ≡ plus? K (cond b (Some (f x)) (nothing K)) (total K (where_is K p (λ y. Some (f y))) xs)
         go ih true = ap (plus? K (Some (f x))) ih
         go ih false = ih ∙ sym (nothing_plus K L (total K (where_is K p (λ y. Some (f y))) xs))

@@ -1,10 +1,11 @@
 -- What the calls do that stand over any office. They refuse at level 0.
 use Rattle.std.specs.Prelude.{ℕ, cond, not, List, [], ◌∷◌, map, reverse, length, Option}
+use Rattle.std.specs.List.{filter}
 use Rattle.shares.specs.Kind.{Kind}
 use Rattle.shares.specs.Joins.{together}
 use Rattle.lending.specs.declared.lease.Lease.{Lease}
 use Rattle.lending.specs.Office.{State}
-use Rattle.lending.specs.Roll.{keep, live, family, shares_of}
+use Rattle.lending.specs.Roll.{live, family, shares_of}
 use Rattle.lending.specs.Outcome.{Outcome, unless, and_then, answering}
 use Rattle.lending.specs.Outcome.Answer.{done, number}
 use Rattle.lending.specs.Outcome.Outcome.{tells, grants}
@@ -30,7 +31,7 @@ module _ {S : Type 0} where
   -- yields every lease due by the day from the highest number down, then sets the day, and answers how many it closed
   abbrev pub do_day : Kind S → State S → ℕ → Outcome S
   do_day K s d =
-      let ns = downward (keep (due_by d) s.core.roll) in
+      let ns = downward (filter (due_by d) s.core.roll) in
       unless 0 ((bad_day s d, 13) ∷ [])
       (answering (number (length ns)) (and_then (yields K s ns) (λ t. do_set_day t d)))
 

@@ -1,11 +1,12 @@
 -- What the calls of every office do.
 use Rattle.std.specs.Prelude.{ℕ, ◌+◌, Bool, not, ◌||◌, [], ◌∷◌, length, ◌==◌, nat_le, nat_lt}
+use Rattle.std.specs.List.{list_any}
 use Rattle.shares.specs.Kind.{Kind}
 use Rattle.lending.specs.declared.lease.Lease.{Lease}
 use Rattle.lending.specs.Limits.{within_range, last_day, never, last_number}
 use Rattle.lending.specs.Office.{State, with_roll, with_today, issue}
 use Rattle.lending.specs.Office.Request.{opening, delegating, assigning}
-use Rattle.lending.specs.Roll.{find, is_open, lends, some_is, with_share, with_holder, change, close, relend, plus}
+use Rattle.lending.specs.Roll.{find, is_open, lends, with_share, with_holder, change, close, relend, plus}
 use Rattle.lending.specs.Outcome.{Outcome, unless, unless_objected, need_live, need_halves}
 use Rattle.lending.specs.Outcome.Answer.{done, number}
 use Rattle.lending.specs.Outcome.Outcome.{grants}
@@ -95,5 +96,5 @@ module _ {S : Type 0} where
 
   abbrev pub do_set_day : State S → ℕ → Outcome S
   do_set_day s d =
-      unless s.core.depth ((bad_day s d, 13) ∷ (some_is (due_by d) s.core.roll, 14) ∷ [])
+      unless s.core.depth ((bad_day s d, 13) ∷ (list_any (due_by d) s.core.roll, 14) ∷ [])
       (grants done (with_today d s))

@@ -1,10 +1,11 @@
 -- What the definitions of the calls rest on, in every state that calls reach.
 use Rattle.std.specs.Prelude.{◌≡◌, ℕ, ◌<◌, ◌≤◌, true, false, ◌↔◌, List, Some, ◌≢◌}
+use Rattle.std.specs.List.{list_any}
 use mathlib.Core.List.{Memᴰ}
 use Rattle.shares.specs.Kind.{Kind}
 use Rattle.lending.specs.declared.lease.Lease.{Lease}
 use Rattle.lending.specs.Office.{State, SetUp}
-use Rattle.lending.specs.Roll.{Rising, lends, some_is, under}
+use Rattle.lending.specs.Roll.{Rising, lends, under}
 use Rattle.lending.specs.Outcome.Call.{day}
 use Rattle.lending.specs.Outcome.Answer.{number}
 use Rattle.lending.specs.Outcome.Outcome.{grants}
@@ -30,7 +31,7 @@ module _ {S : Type 0} where
     -- The test for a lease under another is right,
     pub under_is_chain : (l q : Lease S) → Live t l → Live t q → (under t.core.roll l.number q.number ≡ true) ↔ Under t.core.roll q l
     -- and a yield is refused for leases under it exactly when there are some.
-    pub under_is_lent : (l : Lease S) → Live t l → lends t.core.roll l.number ≡ some_is (λ x. under t.core.roll x.number l.number) t.core.roll
+    pub under_is_lent : (l : Lease S) → Live t l → lends t.core.roll l.number ≡ list_any (λ x. under t.core.roll x.number l.number) t.core.roll
     -- Each join that a call makes is defined.
     pub standing_joins : (resource holder : ℕ) → (s : S) × (standing_of K t.core.roll resource holder ≡ Some s)
     pub yield_joins : (l p : Lease S) → Live t l → Live t p → p.number ≡ l.lender → lends t.core.roll l.number ≡ false → (s : S) × (K.join p.share l.share ≡ Some s)

@@ -1,18 +1,9 @@
 -- The roll: the live leases by rising number.
-use Rattle.std.specs.Prelude.{ℕ, zero, suc, ◌<◌, Bool, false, cond, not, ◌&&◌, ◌||◌, List, [], ◌∷◌, map, length, is_some, Some, None, Option, ◌==◌, nat_eq}
+use Rattle.std.specs.Prelude.{ℕ, zero, suc, ◌<◌, Bool, cond, not, ◌&&◌, ◌||◌, List, [], ◌∷◌, map, length, is_some, Some, None, Option, ◌==◌, nat_eq}
+use Rattle.std.specs.List.{filter, list_any}
 use Rattle.std.specs.Option.{unwrap_or}
 use Rattle.shares.specs.Kind.{Kind}
 use Rattle.lending.specs.declared.lease.Lease.{Lease}
-
--- those that pass a test
-abbrev pub keep : {A : Type 0} → (A → Bool) → List A → List A
-keep p [] = []
-keep p (x ∷ xs) = cond (p x) (x ∷ keep p xs) (keep p xs)
-
--- one of them passes it
-abbrev pub some_is : {A : Type 0} → (A → Bool) → List A → Bool
-some_is p [] = false
-some_is p (x ∷ xs) = p x || some_is p xs
 
 module _ {S : Type 0} where
   -- the numbers rise, from above lo
@@ -30,7 +21,7 @@ module _ {S : Type 0} where
 
   -- a resource is open if it has a live lease
   abbrev pub is_open : List (Lease S) → ℕ → Bool
-  is_open roll resource = some_is (λ l. nat_eq l.resource resource) roll
+  is_open roll resource = list_any (λ l. nat_eq l.resource resource) roll
 
   -- the lease's lender, if it has one and that is not the house, and then the rest
   abbrev pub lender_then : Option (Lease S) → (ℕ → List ℕ) → List ℕ
@@ -51,23 +42,23 @@ module _ {S : Type 0} where
 
   -- lease m is under lease n
   abbrev pub under : List (Lease S) → ℕ → ℕ → Bool
-  under roll m n = some_is (λ k. nat_eq k n) (above roll m)
+  under roll m n = list_any (λ k. nat_eq k n) (above roll m)
 
   -- lease n and all live leases under it
   abbrev pub family : List (Lease S) → ℕ → List (Lease S)
-  family roll n = keep (λ l. (l.number == n) || under roll l.number n) roll
+  family roll n = filter (λ l. (l.number == n) || under roll l.number n) roll
 
   -- a live lease has n for its lender; that is so exactly when a live lease is under n
   abbrev pub lends : List (Lease S) → ℕ → Bool
-  lends roll n = some_is (λ l. nat_eq l.lender n) roll
+  lends roll n = list_any (λ l. nat_eq l.lender n) roll
 
   -- how many live leases a holder has
   abbrev pub held : List (Lease S) → ℕ → ℕ
-  held roll holder = length (keep (λ l. nat_eq l.holder holder) roll)
+  held roll holder = length (filter (λ l. nat_eq l.holder holder) roll)
 
   -- the shares that a holder has of a resource
   abbrev pub shares_of : List (Lease S) → ℕ → ℕ → List S
-  shares_of roll resource holder = map (λ l. l.share) (keep (λ l. (l.resource == resource) && l.holder == holder) roll)
+  shares_of roll resource holder = map (λ l. l.share) (filter (λ l. (l.resource == resource) && l.holder == holder) roll)
 
   -- a lease with one thing changed
   abbrev pub with_share : S → Lease S → Lease S
@@ -85,7 +76,7 @@ module _ {S : Type 0} where
 
   -- the roll without lease n
   abbrev pub close : ℕ → List (Lease S) → List (Lease S)
-  close n roll = keep (λ l. not (l.number == n)) roll
+  close n roll = filter (λ l. not (l.number == n)) roll
 
   -- the roll in which a lends what b lent
   abbrev pub relend : ℕ → ℕ → List (Lease S) → List (Lease S)
