@@ -26,11 +26,11 @@ impl Share for Counting {
     }
 
     fn join(self, other: Counting) -> Option<Counting> {
-        counted(plus(self.held, other.held)?)
+        counted(self.plus(other)?)
     }
 
     fn halve(self) -> Option<(Counting, Counting)> {
-        let kept = counted(less(self.held)?)?;
+        let kept = counted(self.less()?)?;
         Some((kept, of_permission(Permission::Readers(1))))
     }
 }
@@ -65,19 +65,30 @@ fn within(held: Permission) -> bool
     }
 }
 
-// Both permissions as one: readers add up, and readers given back to a source are no longer given out.
-fn plus(a: Permission, b: Permission) -> Option<Permission>
-    requires a { within a ≡ true }
-    requires b { within b ≡ true }
-    ensures { result ≡ plus a b }
-{
-    match (a, b) {
-        (Permission::Empty, _) => Some(b),
-        (_, Permission::Empty) => Some(a),
-        (Permission::Source(n), Permission::Readers(k)) => given_back(n, k),
-        (Permission::Readers(k), Permission::Source(n)) => given_back(n, k),
-        (Permission::Readers(j), Permission::Readers(k)) => Some(Permission::Readers(j + k)),
-        (Permission::Source(_), Permission::Source(_)) => None,
+impl Counting {
+    // Both permissions as one: readers add up, and readers given back to a source are no longer given out.
+    fn plus(self, other: Counting) -> Option<Permission>
+        ensures { result ≡ plus self.held other.held }
+    {
+        match (self.held, other.held) {
+            (Permission::Empty, held) => Some(held),
+            (held, Permission::Empty) => Some(held),
+            (Permission::Source(n), Permission::Readers(k)) => given_back(n, k),
+            (Permission::Readers(k), Permission::Source(n)) => given_back(n, k),
+            (Permission::Readers(j), Permission::Readers(k)) => Some(Permission::Readers(j + k)),
+            (Permission::Source(_), Permission::Source(_)) => None,
+        }
+    }
+
+    // What is kept where one reader is lent.
+    fn less(self) -> Option<Permission>
+        ensures { result ≡ less self.held }
+    {
+        match self.held {
+            Permission::Empty => None,
+            Permission::Source(n) => Some(Permission::Source(n + 1)),
+            Permission::Readers(k) => Some(Permission::Readers(k - 1)),
+        }
     }
 }
 
@@ -89,17 +100,5 @@ fn given_back(n: u16, k: u16) -> Option<Permission>
         Some(Permission::Source(n - k))
     } else {
         None
-    }
-}
-
-// What is kept where one reader is lent.
-fn less(held: Permission) -> Option<Permission>
-    requires { within held ≡ true }
-    ensures { result ≡ less held }
-{
-    match held {
-        Permission::Empty => None,
-        Permission::Source(n) => Some(Permission::Source(n + 1)),
-        Permission::Readers(k) => Some(Permission::Readers(k - 1)),
     }
 }
