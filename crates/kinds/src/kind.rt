@@ -56,7 +56,8 @@ impl FromStr for KindOfShare {
     }
 }
 
-// Calls a function over any kind of share at the kind that a value names. A caller has all of this crate in scope.
+// Calls a function over any kind of share at the kind that a value names. A caller has all of this crate in scope. It is a
+// macro, since a closure, a `dyn` or a function pointer has one type, and what is called is generic in the kind.
 #[macro_export]
 macro_rules! of_kind {
     ($kind:expr, $call:ident($($x:expr),*)) => {

@@ -38,6 +38,7 @@ pub(crate) fn print_roll<S: Printed, O: Office<Kind = S>>(
     let numbers = issued(office);
     let live = count(office);
     println!(rt; "  today is day {day}, {numbers} issued, {live} live")?;
+    // by position, since the calls of the desk carry the lending promise, and an iterator over the office does not
     for lease in (0..live).filter_map(|position| lease_at(office, position).ok()) {
         let entry = Entry(lease);
         println!(rt; "    {entry}")?;

@@ -10,7 +10,7 @@ use lending::{Lease, MOST_ROWS, NEVER_DUE, join_or_keep};
 use shares::Share;
 
 // One ledger over rows that are lent to it, for every kind of share. It uses the first 1,024 rows, or all if fewer, and
-// keeps the roll in the first of them.
+// keeps the roll in the first of them: a count beside the rows, and no Vec, since an office has no heap.
 #[derive(Drop)]
 pub struct Ledger<'a, S> {
     rows: &'a mut [Lease<S>],
@@ -134,7 +134,8 @@ impl<'a, S: Share> Ledger<'a, S> {
         self.issued
     }
 
-    // Writes a lease over the live one with its number.
+    // Writes a lease over the live one with its number. (What is to be done with the lease as a closure has a longer
+    // contract, and its proof didn't close.)
     fn rewrite(&mut self, lease: Lease<S>)
         requires { ∥ Orderly (change lease.number (λ _. lease) (means self.old).core.roll) self.old.issued ∥₁ }
         ensures { Stands self.new self.old (with_roll (change lease.number (λ _. lease) (means self.old).core.roll) (means self.old)).core }
@@ -154,6 +155,9 @@ impl<'a, S: Share> Ledger<'a, S> {
             self.rows.copy_within(place + 1..end, place);
         }
     }
+
+    // What is granted. Each asks that the leases it takes are live here, a fact of lease and ledger together, which no type
+    // of the lease could keep while the ledger changes.
 
     // Issues the next number to a first lease, with the whole.
     fn first(&mut self, resource: u16, holder: u16) -> u16

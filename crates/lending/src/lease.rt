@@ -5,9 +5,10 @@ pub struct Lease<S> {
     pub number: u16,
     pub resource: u16,
     pub holder: u16,
-    // the number of the lease from which it was lent; 0 is the house, which lends each resource's first lease
+    // the number of the lease from which it was lent; 0 is the house, which lends each resource's first lease (a number, and
+    // no Option, since the rules, the definitions and what is printed all say 0)
     pub lender: u16,
-    // the day on which it falls due; a first lease has 10,000, a day that never comes
+    // the day on which it falls due; a first lease has 10,000, a day that never comes (a number for the same reason)
     pub due: u16,
     pub share: S,
 }

@@ -14,7 +14,8 @@ pub fn join_all<S: Share>(shares: &[S]) -> Option<S>
     add_up(shares)
 }
 
-// The shares joined one after another, from the first on.
+// The shares joined one after another, from the first on. The loop is by itself so that a wrong call of it is refused where
+// it stands, and not in the proof of the loop.
 fn add_up<S: Share>(shares: &[S]) -> Option<S>
     ensures is { result ≡ together S.kind shares.now }
     ensures any_way { (g : Grouping S) → Perm (leaves g) shares.now → grouped S.kind g ≡ result }

@@ -9,7 +9,7 @@ pub trait Printed: Share {
     ghost text: { Self → List ℕ };
 
     // Writes the text at the front of a space, where there is always room for it, and answers its length. What stands
-    // after it stays.
+    // after it stays. A space and a length, and no String, since an office has no heap.
     fn write(self, space: &mut [u8; 190]) -> usize
         ensures length { result ≡ length (text self) }
         ensures bytes { space.new ≡ in_front (text self) space.old };

@@ -24,7 +24,8 @@ impl Printed for Trees {
     }
 }
 
-// Writes the text of some cells at the front of a space, and answers its length.
+// Writes the text of some cells at the front of a space, and answers its length. By itself so that a wrong call of it is
+// refused where it stands, and not in its proof.
 fn write_cells(cells: u64, space: &mut [u8; 190]) -> usize
     ensures length { result ≡ length (text (tree_of 6 cells)) }
     ensures bytes { space.new ≡ in_front (text (tree_of 6 cells)) space.old }
