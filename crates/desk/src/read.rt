@@ -1,28 +1,18 @@
 // Reading calls as they are written.
-ghost use Rattle.std.specs.Prelude.{◌≡◌, ℕ, List, drop, Ok, Some, codes};
+ghost use Rattle.std.specs.Prelude.{◌≡◌, ℕ, List, drop, Ok, Some};
 ghost use Rattle.std.specs.Str.Iter.{split_whitespace_rest};
 ghost use Rattle.desk.specs.declared.call.Call.{Call};
 ghost use Rattle.desk.specs.Written.{name_of, numbers_of, numbered, Fit, ReadsBack, first, first_three};
 
 use crate::call::Call;
-use std::error::Error;
-use std::fmt;
 use std::num::ParseIntError;
 use std::str::{FromStr, SplitWhitespace};
+use thiserror::Error;
 
 // That a text is no call.
-#[derive(Clone, Copy, PartialEq, Eq, Debug, Drop)]
+#[derive(Clone, Copy, PartialEq, Eq, Debug, Drop, Error)]
+#[error("no call to an office")]
 pub struct NotACall;
-
-impl fmt::Display for NotACall {
-    ghost output = { λ _. Some (codes "no call to an office") };
-
-    fn fmt<W: fmt::Write>(&self, f: &mut fmt::Formatter<W>) -> fmt::Result {
-        write!(f, "no call to an office")
-    }
-}
-
-impl Error for NotACall {}
 
 impl From<ParseIntError> for NotACall {
     fn from(_error: ParseIntError) -> NotACall {
