@@ -1,5 +1,5 @@
 -- Walking up a chain of lenders.
-use Rattle.std.proofs.Common.{◌≡◌, ℕ, zero, suc, ◌+◌, ◌-◌, ◌<◌, Bool, true, false, cond, eqb, List, [], ◌∷◌, length, Some, None, Option, refl, ap, ◌∙◌, arith}
+use Rattle.std.proofs.Common.{◌≡◌, ℕ, suc, ◌+◌, ◌-◌, ◌<◌, Bool, true, false, cond, eqb, List, [], ◌∷◌, length, Some, None, Option, refl, ap, ◌∙◌, arith}
 use mathlib.Core.Logic.{∥∥₁_elim}
 use native.Mathlib.Bridge.{le_prop}
 use Rattle.lending.specs.declared.lease.Lease.{Lease}
@@ -18,14 +18,6 @@ module _ {S : Type 0} where
       go true e = cc
       go false e = cc
 
-  none_then : (rest : ℕ → List ℕ) (o : Option (Lease S)) → None ≡ lender_of_lease o → lender_then o rest ≡ []
-  none_then rest None e = refl
-  none_then rest (Some l) e = go (eqb l.lender 0) e
-    where
-      go : (b : Bool) → None ≡ cond b None (Some l.lender) → cond b [] (l.lender ∷ rest l.lender) ≡ []
-      go true e = refl
-      go false e = cc
-
   some_then : (rest : ℕ → List ℕ) (o : Option (Lease S)) (p : ℕ) → Some p ≡ lender_of_lease o → lender_then o rest ≡ p ∷ rest p
   some_then rest None p e = cc
   some_then rest (Some l) p e = go (eqb l.lender 0) e
@@ -35,12 +27,7 @@ module _ {S : Type 0} where
       go false e = let z : l.lender ≡ p = cc in ap (λ q. q ∷ rest q) z
 
 module _ {S : Type 0} (roll : List (Lease S)) (n : ℕ) where
-  -- nothing is above a lease that has no lender
-  pub stops : (k : ℕ) → None ≡ lender_of_lease (find roll n) → length (lenders k roll n) ≡ 0
-  stops zero e = refl
-  stops (suc k) e = ap length (none_then (λ m. lenders k roll m) (find roll n) e)
-
-  -- and above another there is its lender, with what is above that
+  -- above a lease that has a lender there is that one, with what is above it
   pub goes_on : (a i p : ℕ) → i < a → Some p ≡ lender_of_lease (find roll n) → length (lenders (a - i) roll n) ≡ length (lenders (a - (i + 1)) roll p) + 1
   goes_on a i p h e =
       let q : a - i ≡ suc (a - (i + 1)) = omega arith in

@@ -1,5 +1,5 @@
-use Rattle.std.proofs.Common.{◌-◌, arith}
-use Rattle.chain.proofs.Heights.{stops, goes_on, lower}
+use Rattle.std.proofs.Common.{arith}
+use Rattle.chain.proofs.Heights.{goes_on, lower}
 use Rattle.chain.proofs.chain.height_of.Goals as goal
 
 pub overflow_add-height : goal.overflow_add-height
@@ -21,9 +21,3 @@ loop-lender-preserved g c =
     let less = lower s.core.roll n s.core.issued (g.O.Office.lawful c.args.office.now).orderly p c.in-Some.ensures in
     let e = goes_on s.core.roll n c.args.lease c.loop-lender.height p (omega (arith, c.loop-lender.invariant.1)) c.in-Some.ensures in
     (omega (arith, e, c.loop-lender.invariant.0), omega (arith, c.loop-lender.invariant.1))
-
-pub returns : goal.returns
-returns g c =
-    let s = g.O.Office.meaning c.args.office.now in
-    let e = stops s.core.roll c.loop-lender.reached (c.args.lease - c.loop-lender.height) c.in_default.ensures in
-    omega (arith, e, c.loop-lender.invariant.0)
