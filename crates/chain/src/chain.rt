@@ -1,15 +1,28 @@
 ghost use Rattle.std.specs.Prelude.{◌≡◌};
+ghost use Rattle.lending.specs.Layers.{layered};
+ghost use Rattle.lending.specs.Office.{SetUp};
 ghost use Rattle.lending.specs.Roll.{find, height};
 ghost use Rattle.chain.specs.Means.{lender_of_lease, chain_objects};
 
-use layer::{Request, Rule};
+use layer::{Layer, Request, Rule};
 use lending::Reason;
 use office::Office;
 
 // A layer with this rule objects where a lease that has `limit` leases above it would lend.
 #[derive(Clone, Copy, PartialEq, Eq, Debug, Drop)]
 pub struct Chain {
-    pub limit: u16,
+    limit: u16,
+}
+
+impl Chain {
+    // The layer with this rule over an office.
+    pub fn over<O: Office>(below: O, limit: u16) -> Layer<O, Chain>
+        ensures stands { ⟦<Layer<O, Chain> as Office>⟧.meaning result ≡ layered (chain_objects limit) (O.Office.meaning below) }
+        ensures set_up { SetUp (O.Office.meaning below) → SetUp (⟦<Layer<O, Chain> as Office>⟧.meaning result) }
+        ensures rows { ⟦<Layer<O, Chain> as Office>⟧.rows result ≡ O.Office.rows below }
+    {
+        Layer::new(below, Chain { limit })
+    }
 }
 
 impl<O: Office> Rule<O> for Chain {

@@ -13,6 +13,6 @@ mod values;
 
 pub use call::{Answer, Call};
 pub use calls::{assign, delegate, merge, open, set_day, yield_lease};
-pub use questions::{count, issued, lease, lease_at, today};
+pub use questions::{count, issued, lease, lease_at, leases, today};
 pub use read::NotACall;
 pub use values::make;

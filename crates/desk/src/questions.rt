@@ -1,12 +1,14 @@
 // The questions to an office, which change nothing.
+ghost use Rattle.std.specs.Prelude.{◌≡◌};
 ghost use Rattle.lending.specs.Outcome.Call.{ask_count, ask_issued, ask_today, ask_lease_at, ask_lease};
 ghost use Rattle.lending.specs.Outcome.Answer.{number};
 ghost use Rattle.lending.specs.Perform.{Does};
 ghost use Rattle.lending.specs.Promise.{LendingConserved, CallConserves};
 ghost use Rattle.lending.specs.Told.{told_lease};
+ghost use Rattle.office.specs.Left.{left};
 
 use lending::{Lease, Refusal, lending_is_conserved};
-use office::Office;
+use office::{LiveLeases, Office};
 
 // How many leases are live.
 pub fn count<O: Office>(office: &O) -> usize
@@ -56,4 +58,13 @@ pub fn lease<O: Office>(office: &O, lease: u16) -> Result<Lease<O::Kind>, Refusa
 {
     lending_is_conserved::<O::Kind>();
     office.lease(lease)
+}
+
+// The live leases one by one, in the order of the roll.
+pub fn leases<O: Office>(office: &O) -> LiveLeases<'_, O>
+    ensures is { left O.Office.meaning result ≡ (O.Office.meaning office.now).core.roll }
+    ensures always { LendingConserved O.Kind.Share.kind }
+{
+    lending_is_conserved::<O::Kind>();
+    office::leases(office)
 }

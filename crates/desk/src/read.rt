@@ -9,7 +9,7 @@ use std::num::ParseIntError;
 use std::str::{FromStr, SplitWhitespace};
 use thiserror::Error;
 
-// That a text is no call.
+// The error of a text that is no call.
 #[derive(Clone, Copy, PartialEq, Eq, Debug, Drop, Error)]
 #[error("no call to an office")]
 pub struct NotACall;
@@ -41,7 +41,7 @@ impl FromStr for Call {
     }
 }
 
-// The next word as a number, if there is one.
+// The next word as a number, if there is one. (With `map` and `transpose` its proof didn't close.)
 fn next_number(words: &mut SplitWhitespace) -> Result<Option<u16>, NotACall>
     ensures { (numbers : List ℕ) → Fit numbers → split_whitespace_rest words.old ≡ numbered numbers → (result ≡ Ok (first numbers)) × (split_whitespace_rest words.new ≡ numbered (drop 1 numbers)) }
 {

@@ -20,13 +20,15 @@ pub fn make<O: Office>(office: &mut O, call: Call) -> Result<Answer<O::Kind>, Re
 {
     match call {
         Call::Open { resource, holder } => {
-            open(office, resource, holder).map(|n| Answer::Number(usize::from(n)))
+            open(office, resource, holder).map(|number| Answer::Number(usize::from(number)))
         }
         Call::Delegate {
             lender,
             holder,
             due,
-        } => delegate(office, lender, holder, due).map(|n| Answer::Number(usize::from(n))),
+        } => delegate(office, lender, holder, due).map(|number| Answer::Number(usize::from(
+            number,
+        ))),
         Call::Yield { lease } => yield_lease(office, lease).map(|()| Answer::Done),
         Call::Merge { a, b } => merge(office, a, b).map(|()| Answer::Done),
         Call::Assign { lease, holder } => assign(office, lease, holder).map(|()| Answer::Done),

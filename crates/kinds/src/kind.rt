@@ -15,7 +15,7 @@ pub enum KindOfShare {
 // Their names, for a sentence.
 pub const KIND_NAMES: &str = "trees or counting";
 
-// A name that no kind has.
+// The error of a name that no kind has.
 #[derive(Clone, Copy, PartialEq, Eq, Debug, Drop, Error)]
 #[error("no kind of share has this name")]
 pub struct NoSuchKind;

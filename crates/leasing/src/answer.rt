@@ -1,12 +1,14 @@
 // Making calls, and printing what comes of them.
 use crate::read::{Line, SetUp, Unreadable};
 use crate::show::{print_answer, print_roll};
+use chain::Chain;
 use desk::{Call, make};
-use layer::Layer;
 use ledger::Ledger;
 use lending::Lease;
 use office::Office;
+use quota::Quota;
 use shares::Printed;
+use term::Term;
 
 // Sets up an office, and makes the calls to it.
 pub(crate) fn serve<S: Printed>(
@@ -34,12 +36,13 @@ fn serve_over<S: Printed, O: Office<Kind = S> + Drop>(
     office: SetUp,
     lines: &[Result<Line, Unreadable>],
 ) -> anyhow::Result<()> {
-    let chain = Layer::new(below, office.chain);
-    let term = Layer::new(chain, office.term);
-    let mut pile = Layer::new(term, office.quota);
+    let chain = Chain::over(below, office.chain);
+    let term = Term::over(chain, office.term);
+    let mut pile = Quota::over(term, office.quota);
     for line in lines {
         match line {
             Ok(Line::Call(call)) => answer(rt, &mut pile, *call)?,
+            // no office stands here: each begins a part of the lines
             Ok(Line::Office(_)) | Err(Unreadable) => println!(rt; "{Unreadable}")?,
         }
     }

@@ -1,35 +1,35 @@
 // Reading lines.
-use chain::Chain;
-use desk::{Call, NotACall};
+use desk::Call;
 use kinds::{KIND_NAMES, KindOfShare, NoSuchKind};
 use lending::MOST_ROWS;
-use quota::Quota;
 use std::fmt;
 use std::num::ParseIntError;
 use std::str::{FromStr, SplitWhitespace};
-use term::Term;
 
 // An office to set up: Quota on Term on Chain on a ledger with so many rows, for a kind of share.
 #[derive(Clone, Copy, Drop)]
 pub(crate) struct SetUp {
     pub(crate) kind: KindOfShare,
     pub(crate) rows: u16,
-    pub(crate) quota: Quota,
-    pub(crate) term: Term,
-    pub(crate) chain: Chain,
+    pub(crate) quota: u16,
+    pub(crate) term: u16,
+    pub(crate) chain: u16,
 }
 
 // The office as it is set up, with the rows that its ledger uses.
 impl fmt::Display for SetUp {
     fn fmt<W: fmt::Write>(&self, f: &mut fmt::Formatter<W>) -> fmt::Result {
-        let kind = self.kind;
-        let used = usize::from(self.rows).min(MOST_ROWS);
-        let Quota { limit: quota } = self.quota;
-        let Term { days } = self.term;
-        let Chain { limit: chain } = self.chain;
+        let SetUp {
+            kind,
+            rows,
+            quota,
+            term,
+            chain,
+        } = *self;
+        let used = usize::from(rows).min(MOST_ROWS);
         write!(
             f,
-            "an office of {kind}, {used} rows, quota {quota}, term {days}, chain {chain}"
+            "an office of {kind}, {used} rows, quota {quota}, term {term}, chain {chain}"
         )
     }
 }
@@ -41,7 +41,7 @@ pub(crate) enum Line {
     Call(Call),
 }
 
-// That a line asks for nothing that there is. It prints what is expected.
+// The error of a line that can't be read. It prints what is expected.
 #[derive(Clone, Copy, Debug, Drop)]
 pub(crate) struct Unreadable;
 
@@ -70,10 +70,8 @@ impl FromStr for Line {
     type Err = Unreadable;
 
     fn from_str(line: &str) -> Result<Line, Unreadable> {
-        match line.parse() {
-            Ok(call) => Ok(Line::Call(call)),
-            Err(NotACall) => Ok(Line::Office(line.parse()?)),
-        }
+        let call = line.parse().map(Line::Call);
+        call.or_else(|_| line.parse().map(Line::Office))
     }
 }
 
@@ -89,15 +87,9 @@ impl FromStr for SetUp {
         let office = SetUp {
             kind: next(&mut words)?.parse()?,
             rows: next(&mut words)?.parse()?,
-            quota: Quota {
-                limit: next(&mut words)?.parse()?,
-            },
-            term: Term {
-                days: next(&mut words)?.parse()?,
-            },
-            chain: Chain {
-                limit: next(&mut words)?.parse()?,
-            },
+            quota: next(&mut words)?.parse()?,
+            term: next(&mut words)?.parse()?,
+            chain: next(&mut words)?.parse()?,
         };
         match words.next() {
             None => Ok(office),

@@ -1,5 +1,5 @@
 // Printing answers and the roll.
-use desk::{Answer, Call, count, issued, lease_at, today};
+use desk::{Answer, Call, count, issued, leases, today};
 use lending::{Lease, Refusal};
 use office::Office;
 use shares::{Printed, Text};
@@ -13,9 +13,9 @@ pub(crate) fn print_answer<S: Printed>(
 ) -> anyhow::Result<()> {
     match answer {
         Ok(Answer::Done) => println!(rt; "  granted")?,
-        Ok(Answer::Number(n)) => match call {
-            Call::Open { .. } | Call::Delegate { .. } => println!(rt; "  granted, lease {n}")?,
-            _ => println!(rt; "  {n}")?,
+        Ok(Answer::Number(number)) => match call {
+            Call::Open { .. } | Call::Delegate { .. } => println!(rt; "  granted, lease {number}")?,
+            _ => println!(rt; "  {number}")?,
         },
         Ok(Answer::Lease(lease)) => {
             let entry = Entry(lease);
@@ -38,8 +38,7 @@ pub(crate) fn print_roll<S: Printed, O: Office<Kind = S>>(
     let numbers = issued(office);
     let live = count(office);
     println!(rt; "  today is day {day}, {numbers} issued, {live} live")?;
-    // by position, since the calls of the desk carry the lending promise, and an iterator over the office does not
-    for lease in (0..live).filter_map(|position| lease_at(office, position).ok()) {
+    for lease in leases(office) {
         let entry = Entry(lease);
         println!(rt; "    {entry}")?;
     }

@@ -134,8 +134,8 @@ impl<'a, S: Share> Ledger<'a, S> {
         self.issued
     }
 
-    // Writes a lease over the live one with its number. (What is to be done with the lease as a closure has a longer
-    // contract, and its proof didn't close.)
+    // Writes a lease over the live one with its number. (A closure that says what becomes of the lease has a longer contract,
+    // and its proof didn't close.)
     fn rewrite(&mut self, lease: Lease<S>)
         requires { ∥ Orderly (change lease.number (λ _. lease) (means self.old).core.roll) self.old.issued ∥₁ }
         ensures { Stands self.new self.old (with_roll (change lease.number (λ _. lease) (means self.old).core.roll) (means self.old)).core }
@@ -156,8 +156,8 @@ impl<'a, S: Share> Ledger<'a, S> {
         }
     }
 
-    // What is granted. Each asks that the leases it takes are live here, a fact of lease and ledger together, which no type
-    // of the lease could keep while the ledger changes.
+    // What calls do where they are granted. What each asks has been checked before; that a lease is live here is a fact of
+    // lease and ledger together, which no type of the lease could keep while the ledger changes.
 
     // Issues the next number to a first lease, with the whole.
     fn first(&mut self, resource: u16, holder: u16) -> u16

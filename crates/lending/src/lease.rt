@@ -6,9 +6,9 @@ pub struct Lease<S> {
     pub resource: u16,
     pub holder: u16,
     // the number of the lease from which it was lent; 0 is the house, which lends each resource's first lease (a number, and
-    // no Option, since the rules, the definitions and what is printed all say 0)
+    // no Option, since the rules of an office and the definitions say so)
     pub lender: u16,
-    // the day on which it falls due; a first lease has 10,000, a day that never comes (a number for the same reason)
+    // the day on which it falls due; a first lease has 10,000, a day that never comes (for the same reason)
     pub due: u16,
     pub share: S,
 }

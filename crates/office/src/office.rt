@@ -11,7 +11,8 @@ use lending::{Lease, Refusal};
 use shares::Share;
 
 // An office. Each call does to what the office stands for what the definitions say (`does`); a refusal leaves the whole
-// office as it was (`same`); and the rows that it never uses stay as they are (`unused`).
+// office as it was (`same`); and the rows that it never uses stay as they are (`unused`). These stand on each call, and in no
+// type, since they speak of an office before and after it.
 pub trait Office {
     // The kind of share that it leases.
     type Kind: Share;

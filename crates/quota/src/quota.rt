@@ -1,15 +1,28 @@
 ghost use Rattle.std.specs.Prelude.{◌≡◌};
+ghost use Rattle.lending.specs.Layers.{layered};
+ghost use Rattle.lending.specs.Office.{SetUp};
 ghost use Rattle.lending.specs.Roll.{held};
 ghost use Rattle.quota.specs.Means.{quota_objects};
 
-use layer::{Request, Rule};
+use layer::{Layer, Request, Rule};
 use lending::Reason;
 use office::{Office, leases};
 
 // A layer with this rule objects where a holder that has `limit` leases would get one more.
 #[derive(Clone, Copy, PartialEq, Eq, Debug, Drop)]
 pub struct Quota {
-    pub limit: u16,
+    limit: u16,
+}
+
+impl Quota {
+    // The layer with this rule over an office.
+    pub fn over<O: Office>(below: O, limit: u16) -> Layer<O, Quota>
+        ensures stands { ⟦<Layer<O, Quota> as Office>⟧.meaning result ≡ layered (quota_objects limit) (O.Office.meaning below) }
+        ensures set_up { SetUp (O.Office.meaning below) → SetUp (⟦<Layer<O, Quota> as Office>⟧.meaning result) }
+        ensures rows { ⟦<Layer<O, Quota> as Office>⟧.rows result ≡ O.Office.rows below }
+    {
+        Layer::new(below, Quota { limit })
+    }
 }
 
 impl<O: Office> Rule<O> for Quota {

@@ -22,8 +22,8 @@ fn add_up<S: Share>(shares: &[S]) -> Option<S>
     ensures every_way { JoinsEveryWay S.kind }
 {
     let mut sum = S::empty();
-    for s in shares {
-        sum = sum.join(*s)?;
+    for share in shares {
+        sum = sum.join(*share)?;
     }
     Some(sum)
 }

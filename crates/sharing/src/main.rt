@@ -1,66 +1,43 @@
 // Shares a resource out among borrowers and takes every share back, once for each line of standard input.
 #![tactic(auto)]
 
+mod order;
+
+use crate::order::{NoOrder, Order};
 use kinds::{of_kind, *};
 use loans::{Loan, Round, SharedOut, lend_and_return};
 use shares::{Printed, Text};
 use std::io::ErrorKind;
 
-// What a line asks for: a resource of this kind, shared out among so many borrowers.
-#[derive(Clone, Copy)]
-struct Order {
-    kind: KindOfShare,
-    borrowers: u16,
-}
-
 fn main(rt: HostRuntime) -> anyhow::Result<()> {
     answer_all(&rt)
 }
 
-// Answers each line of standard input.
+// Answers each line of standard input; an empty input gets the answer of a line that can't be read.
 fn answer_all(rt: &HostRuntime) -> anyhow::Result<()> {
-    let mut lines = 0u64;
-    for line in rt.lines(rt.alloc()) {
-        lines = lines.saturating_add(1);
+    let mut lines = rt.lines(rt.alloc()).peekable();
+    if lines.peek().is_none() {
+        println!(rt; "{NoOrder}")?;
+    }
+    for line in lines {
         match line {
             Ok(line) => answer(rt, line.as_str())?,
-            Err(error) if error.kind() == ErrorKind::InvalidData => say_what_is_expected(rt)?,
+            Err(error) if error.kind() == ErrorKind::InvalidData => println!(rt; "{NoOrder}")?,
             Err(error) => return Err(error.into()),
         }
-    }
-    if lines == 0 {
-        say_what_is_expected(rt)?;
     }
     Ok(())
 }
 
 // Does what one line asks for, and prints what was done.
 fn answer(rt: &HostRuntime, line: &str) -> anyhow::Result<()> {
-    let Some(order) = read_order(line) else {
-        return say_what_is_expected(rt);
-    };
-    let Order { kind, borrowers } = order;
-    println!(rt; "{kind}, borrowers: {borrowers}")?;
-    of_kind!(kind, share_out(rt, borrowers))
-}
-
-// What is said where there is no order to read.
-fn say_what_is_expected(rt: &HostRuntime) -> anyhow::Result<()> {
-    println!(rt;
-        "expected a kind of share ({KIND_NAMES}) and how many borrowers (0 to 65535), as in: trees 5"
-    )?;
-    Ok(())
-}
-
-// Reads an order: the name of a kind and a number, two words.
-fn read_order(line: &str) -> Option<Order> {
-    let mut words = line.split_whitespace();
-    let kind = words.next()?.parse::<KindOfShare>().ok()?;
-    let borrowers = words.next()?.parse::<u16>().ok()?;
-    if words.next().is_some() {
-        return None;
+    match line.parse() {
+        Ok(Order { kind, borrowers }) => {
+            println!(rt; "{kind}, borrowers: {borrowers}")?;
+            of_kind!(kind, share_out(rt, borrowers))
+        }
+        Err(NoOrder) => Ok(println!(rt; "{NoOrder}")?),
     }
-    Some(Order { kind, borrowers })
 }
 
 // Shares a whole resource out, takes every share back, and prints each step.
@@ -83,8 +60,7 @@ fn share_out<S: Printed>(rt: &HostRuntime, borrowers: u16) -> anyhow::Result<()>
 
 // A line for each loan.
 fn print_loans<S: Printed>(rt: &HostRuntime, loans: &[Loan<S>]) -> anyhow::Result<()> {
-    for (i, loan) in loans.iter().enumerate() {
-        let number = i.saturating_add(1);
+    for (number, loan) in (1u64..).zip(loans) {
         let Loan { lent, kept } = *loan;
         let lent = Text(lent);
         let kept = Text(kept);

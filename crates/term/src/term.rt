@@ -1,13 +1,27 @@
+ghost use Rattle.std.specs.Prelude.{◌≡◌};
+ghost use Rattle.lending.specs.Layers.{layered};
+ghost use Rattle.lending.specs.Office.{SetUp};
 ghost use Rattle.term.specs.Means.{term_objects};
 
-use layer::{Request, Rule};
+use layer::{Layer, Request, Rule};
 use lending::Reason;
 use office::Office;
 
 // A layer with this rule objects where a lease is delegated for more than `days` days.
 #[derive(Clone, Copy, PartialEq, Eq, Debug, Drop)]
 pub struct Term {
-    pub days: u16,
+    days: u16,
+}
+
+impl Term {
+    // The layer with this rule over an office.
+    pub fn over<O: Office>(below: O, days: u16) -> Layer<O, Term>
+        ensures stands { ⟦<Layer<O, Term> as Office>⟧.meaning result ≡ layered (term_objects days) (O.Office.meaning below) }
+        ensures set_up { SetUp (O.Office.meaning below) → SetUp (⟦<Layer<O, Term> as Office>⟧.meaning result) }
+        ensures rows { ⟦<Layer<O, Term> as Office>⟧.rows result ≡ O.Office.rows below }
+    {
+        Layer::new(below, Term { days })
+    }
 }
 
 impl<O: Office> Rule<O> for Term {

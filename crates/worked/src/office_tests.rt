@@ -1,7 +1,6 @@
 use crate::share_tests::prints;
 use chain::Chain;
 use desk::{assign, delegate, lease_at, merge, open, set_day, yield_lease};
-use layer::Layer;
 use ledger::Ledger;
 use lending::{Lease, Refusal};
 use office::Office;
@@ -43,9 +42,7 @@ fn stands<S: Printed, O: Office<Kind = S>>(
 
 // Ten calls to a pile of three layers: the worked book, with yields where it has a day and a recall.
 fn ten_calls<S: Printed, O: Office<Kind = S> + Drop>(rt: &impl Abort, below: O) {
-    let chain = Layer::new(below, Chain { limit: 2 });
-    let term = Layer::new(chain, Term { days: 30 });
-    let mut office = Layer::new(term, Quota { limit: 64 });
+    let mut office = Quota::over(Term::over(Chain::over(below, 2), 30), 64);
     assert_eq!(rt; open(&mut office, 7, 1), Ok(1));
     assert_eq!(rt; delegate(&mut office, 1, 2, 20), Ok(2));
     assert_eq!(rt; delegate(&mut office, 2, 3, 10), Ok(3));

@@ -96,9 +96,5 @@ impl Counting {
 fn given_back(n: u16, k: u16) -> Option<Permission>
     ensures { result ≡ plus (Permission.Source n) (Permission.Readers k) }
 {
-    if k <= n {
-        Some(Permission::Source(n - k))
-    } else {
-        None
-    }
+    n.checked_sub(k).map(Permission::Source)
 }

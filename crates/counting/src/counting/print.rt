@@ -26,7 +26,8 @@ impl Printed for Counting {
     }
 }
 
-// Writes a letter at the front of a space, and answers how many bytes that are.
+// Writes a letter at the front of a space, and answers how many bytes that are. (A space and a length, since an office has
+// no heap.)
 fn write_letter(letter: u8, space: &mut [u8; 190]) -> usize
     ensures length { result ≡ 1 }
     ensures bytes { space.new ≡ in_front (letter ∷ []) space.old }

@@ -22,11 +22,8 @@ impl Share for Trees {
     }
 
     fn join(self, other: Trees) -> Option<Trees> {
-        if self.cells & other.cells == 0 {
-            Some(of_cells(self.cells | other.cells))
-        } else {
-            None
-        }
+        let apart = self.cells & other.cells == 0;
+        apart.then(|| of_cells(self.cells | other.cells))
     }
 
     fn halve(self) -> Option<(Trees, Trees)> {

@@ -14,8 +14,8 @@ module _ {S : Type 0} (K : Kind S) (L : Laws K) where
       ap (plus? K (Some sum)) (at_drop_more (together K) xs i x h ∙ ap (λ y. together K (y ∷ drop (i + 1) xs)) (sym e) ∙ together_plus K x (drop (i + 1) xs))
       ∙ sym (plus_assoc K L (Some sum) (Some x) rest) ∙ ap (λ o. plus? K o rest) (plus_join K sum x)
 
-pub loop-s-init : goal.loop-s-init
-loop-s-init g c =
+pub loop-share-init : goal.loop-share-init
+loop-share-init g c =
     let K = g.S.Share.kind in
     ap (λ e. plus? K (Some e) (together K c.args.shares.now)) c.empty-sum.ensures ∙ nothing_plus K g.met.S.Share.laws (together K c.args.shares.now)
 
@@ -24,27 +24,27 @@ returns-in_err-sum g c =
     let K = g.S.Share.kind in
     let L = g.met.S.Share.laws in
     let xs = c.args.shares.now in
-    let undefined : K.join c.loop-s.sum c.s-item.result ≡ None = sym c.join.ensures ∙ c.in_err-sum.was in
-    let rest = together K (drop (c.loop-s.s-index + 1) xs) in
+    let undefined : K.join c.loop-share.sum c.share-item.result ≡ None = sym c.join.ensures ∙ c.in_err-sum.was in
+    let rest = together K (drop (c.loop-share.share-index + 1) xs) in
     let is : c.from_residual.result ≡ together K xs =
     c.from_residual.ensures ∙ sym (plus_none K rest) ∙ sym (ap (λ o. plus? K o rest) undefined)
-    ∙ sym (step K L xs c.loop-s.s-index c.s-item.result c.loop-s.sum c.loop-s-test.true c.s-item.is) ∙ c.loop-s.invariant in
+    ∙ sym (step K L xs c.loop-share.share-index c.share-item.result c.loop-share.sum c.loop-share-test.true c.share-item.is) ∙ c.loop-share.invariant in
     record { is = is; any_way = λ h p. any_way K L xs h p ∙ sym is; every_way = every_way K L }
 
-pub loop-s-preserved : goal.loop-s-preserved
-loop-s-preserved g c =
+pub loop-share-preserved : goal.loop-share-preserved
+loop-share-preserved g c =
     let K = g.S.Share.kind in
     let L = g.met.S.Share.laws in
     let xs = c.args.shares.now in
-    let sum : K.join c.loop-s.sum c.s-item.result ≡ Some c.in_ok-sum.sum = sym c.join.ensures ∙ c.in_ok-sum.was in
-    ap (λ o. plus? K o (together K (drop (c.loop-s.s-index + 1) xs))) (sym sum)
-    ∙ sym (step K L xs c.loop-s.s-index c.s-item.result c.loop-s.sum c.loop-s-test.true c.s-item.is) ∙ c.loop-s.invariant
+    let sum : K.join c.loop-share.sum c.share-item.result ≡ Some c.in_ok-sum.sum = sym c.join.ensures ∙ c.in_ok-sum.was in
+    ap (λ o. plus? K o (together K (drop (c.loop-share.share-index + 1) xs))) (sym sum)
+    ∙ sym (step K L xs c.loop-share.share-index c.share-item.result c.loop-share.sum c.loop-share-test.true c.share-item.is) ∙ c.loop-share.invariant
 
 pub returns : goal.returns
 returns g c =
     let K = g.S.Share.kind in
     let L = g.met.S.Share.laws in
     let xs = c.args.shares.now in
-    let is : Some c.loop-s.sum ≡ together K xs =
-    sym (plus_nothing K L (Some c.loop-s.sum)) ∙ sym (ap (plus? K (Some c.loop-s.sum)) (at_drop_all (together K) xs c.loop-s.s-index c.loop-s-test.false)) ∙ c.loop-s.invariant in
+    let is : Some c.loop-share.sum ≡ together K xs =
+    sym (plus_nothing K L (Some c.loop-share.sum)) ∙ sym (ap (plus? K (Some c.loop-share.sum)) (at_drop_all (together K) xs c.loop-share.share-index c.loop-share-test.false)) ∙ c.loop-share.invariant in
     record { is = is; any_way = λ h p. any_way K L xs h p ∙ sym is; every_way = every_way K L }
