@@ -1,5 +1,6 @@
 ghost use Rattle.std.specs.Prelude.{◌≡◌, ◌+◌, ◌<◌, [], ◌∷◌, drop, MatchOption, IsSome};
 ghost use Rattle.std.specs.Iterator.{YieldsFirst, item_count};
+ghost use Rattle.lending.specs.Limits.{most_rows};
 ghost use Rattle.office.specs.Left.{left};
 
 use crate::office::Office;
@@ -26,7 +27,7 @@ pub fn leases<O: Office>(office: &O) -> LiveLeases<'_, O>
 // `next` is refused where it stands, and not in the proof.
 fn first_from<O: Office>(office: &O, position: usize) -> Option<Lease<O::Kind>>
     ensures comes { let roll = (O.Office.meaning office.now).core.roll in MatchOption result (drop position roll ≡ []) (λ lease. drop position roll ≡ lease ∷ drop (position + 1) roll) }
-    ensures within { IsSome result → position < 1024 }
+    ensures within { IsSome result → position < most_rows }
 {
     office.lease_at(position).ok()
 }
