@@ -15,7 +15,8 @@ pub struct Quota {
 }
 
 impl Quota {
-    // The layer with this rule over an office.
+    // The layer with this rule over an office. It says by the definition of this rule what the layer stands for, which
+    // `Layer::new` can say of no rule in particular.
     pub fn over<O: Office>(below: O, limit: u16) -> Layer<O, Quota>
         ensures stands { ⟦<Layer<O, Quota> as Office>⟧.meaning result ≡ layered (quota_objects limit) (O.Office.meaning below) }
         ensures set_up { SetUp (O.Office.meaning below) → SetUp (⟦<Layer<O, Quota> as Office>⟧.meaning result) }

@@ -14,7 +14,8 @@ pub struct Term {
 }
 
 impl Term {
-    // The layer with this rule over an office.
+    // The layer with this rule over an office. It says by the definition of this rule what the layer stands for, which
+    // `Layer::new` can say of no rule in particular.
     pub fn over<O: Office>(below: O, days: u16) -> Layer<O, Term>
         ensures stands { ⟦<Layer<O, Term> as Office>⟧.meaning result ≡ layered (term_objects days) (O.Office.meaning below) }
         ensures set_up { SetUp (O.Office.meaning below) → SetUp (⟦<Layer<O, Term> as Office>⟧.meaning result) }
