@@ -26,6 +26,17 @@ impl<O: Office, R: Rule<O>> Layer<O, R> {
         Layer { below, rule }
     }
 
+    // Ends the layer and gives back the office below, as it is.
+    pub fn into_below(self) -> O
+    where
+        R: Drop,
+        ensures stands { ⟦<Layer<O, R> as Office>⟧.meaning self ≡ layered (R.Rule.objects self.rule) (O.Office.meaning result) }
+        ensures rows { ⟦<Layer<O, R> as Office>⟧.rows self ≡ O.Office.rows result }
+    {
+        let Layer { below, .. } = self;
+        below
+    }
+
     // Refuses what the rule objects to.
     fn allow(&self, request: Request) -> Result<(), Refusal>
         ensures { let s = O.Office.meaning self.now.below in let mine = R.Rule.objects self.now.rule s.core.roll s.core.today (requested request) in MatchResult result (λ x. mine ≡ None) (λ refusal. (mine ≡ Some (number_of refusal.reason)) × (refusal.level ≡ 0)) }

@@ -102,3 +102,16 @@ fn no_row_is_free(rt: HostRuntime) {
     assert_eq!(rt; back.len(), 1);
     assert_eq!(rt; back[0].number, 2);
 }
+
+#[test]
+fn rows_come_back_from_under_three_layers(rt: HostRuntime) {
+    let mut rows = [free_row(); 8];
+    let ledger = Ledger::new(&mut rows);
+    let mut office = Quota::over(Term::over(Chain::over(ledger, 2), 30), 64);
+    assert_eq!(rt; open(&mut office, 7, 1), Ok(1));
+    assert_eq!(rt; delegate(&mut office, 1, 2, 20), Ok(2));
+    let back = office.into_below().into_below().into_below().into_rows();
+    assert_eq!(rt; back.len(), 8);
+    assert_eq!(rt; back[0].number, 1);
+    assert_eq!(rt; back[1].lender, 1);
+}
