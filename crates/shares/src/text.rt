@@ -1,4 +1,4 @@
-ghost use Rattle.std.specs.Prelude.{Some};
+ghost use Rattle.std.specs.Prelude.{◌≡◌, Some};
 
 use crate::printed::Printed;
 use std::fmt;
@@ -12,7 +12,14 @@ impl<S: Printed> fmt::Display for Text<S> {
 
     fn fmt<W: fmt::Write>(&self, f: &mut fmt::Formatter<W>) -> fmt::Result {
         let mut space = [0u8; 190];
-        let length = self.0.write(&mut space);
-        f.write_str(str::from_utf8(&space[..length]).unwrap())
+        f.write_str(text_in(self.0, &mut space))
     }
+}
+
+// The text of a share, written into a space and read there.
+fn text_in<S: Printed>(share: S, space: &mut [u8; 190]) -> &str
+    ensures { result.now ≡ S.text share }
+{
+    let length = share.write(space);
+    str::from_utf8(&space[..length]).unwrap()
 }

@@ -3,7 +3,7 @@ use Rattle.std.specs.Result.{IsOk, MatchResult}
 use Rattle.std.proofs.lemmas.List.{take_at}
 use Rattle.std.proofs.lemmas.Str.{IsUtf8-from_ascii}
 use Rattle.shares.specs.Text.{in_front}
-use Rattle.shares.proofs.text.TextDisplay.fmt.Goals as goal
+use Rattle.shares.proofs.text.text_in.Goals as goal
 
 -- the front of a space that holds a text
 front : (text before after : List ℕ) (n : ℕ) → n ≡ length text → after ≡ in_front text before → take n after ≡ text
@@ -16,7 +16,7 @@ read P Q (Err e) m u = absurd (m.0 u)
 
 pub unwrap-requires : goal.unwrap-requires
 unwrap-requires g c =
-    let share = c.args.self.now.0 in
+    let share = c.args.share in
     let text = g.S.Printed.text share in
     let n = c.write-length.result in
     let e : take n c.write-length.new.space ≡ text = front text _ c.write-length.new.space n c.write-length.ensures.length c.write-length.ensures.bytes in
