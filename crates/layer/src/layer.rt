@@ -30,6 +30,7 @@ impl<O: Office, R: Rule<O>> Layer<O, R> {
     pub fn into_below(self) -> O
     where
         R: Drop,
+        ensures is { result ≡ self.below }
         ensures stands { ⟦<Layer<O, R> as Office>⟧.meaning self ≡ layered (R.Rule.objects self.rule) (O.Office.meaning result) }
         ensures rows { ⟦<Layer<O, R> as Office>⟧.rows self ≡ O.Office.rows result }
     {

@@ -6,9 +6,12 @@ ghost use Rattle.trees.specs.Block.{level, Mixed};
 mod keep;
 mod write;
 
+pub(crate) use keep::cut;
+pub(crate) use write::write_cells;
+
 // A block of 1, 2, 4, 8, 16, 32 or 64 cells, as the bits of a number.
 #[derive(Clone, Copy)]
-pub(crate) struct Block {
+struct Block {
     cells: u64,
     size: u32,
     ghost sized: { size ≡ span (level size) },
@@ -26,7 +29,7 @@ fn full(size: u32) -> u64
 
 impl Block {
     // The block of all 64 cells.
-    pub(crate) fn of_64(cells: u64) -> Block
+    fn of_64(cells: u64) -> Block
         ensures cells { result.cells ≡ cells }
         ensures size { result.size ≡ 64 }
     {

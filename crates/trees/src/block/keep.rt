@@ -1,13 +1,14 @@
 // What a block keeps where each of its filled leaves is cut in two.
 ghost use Rattle.std.specs.Prelude.{◌≡◌, ◌-◌, ◌/◌, ◌^◌, if◌then◌else◌, Some, None, nat_eq};
 ghost use Rattle.trees.specs.Block.{Mixed, kept_of};
+ghost use Rattle.trees.specs.Cells.{cut};
 
 use super::{Block, full};
 
 impl Block {
     // The lower halves of its filled leaves, or None where one of them is one cell.
     #[cycle(halving)]
-    pub(crate) fn kept(self) -> Option<u64>
+    fn kept(self) -> Option<u64>
         ensures { result ≡ kept_of self.size self.cells }
     {
         if self.cells == 0 {
@@ -41,4 +42,15 @@ impl Block {
             Some(full(self.size / 2))
         }
     }
+}
+
+// Each filled leaf cut in two: the cells kept and the cells lent.
+pub(crate) fn cut(cells: u64) -> Option<(u64, u64)>
+    ensures { result ≡ cut cells }
+{
+    if cells == 0 {
+        return None;
+    }
+    let kept = Block::of_64(cells).kept()?;
+    Some((kept, cells - kept))
 }

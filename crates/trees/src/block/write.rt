@@ -1,13 +1,16 @@
 // The text of a block.
 ghost use Rattle.std.specs.Prelude.{◌≡◌, ◌+◌, ◌≤◌, length};
+ghost use Rattle.shares.specs.Text.{in_front};
 ghost use Rattle.trees.specs.Block.{Mixed, text_of, placed};
+ghost use Rattle.trees.specs.Cells.{tree_of};
+ghost use Rattle.trees.specs.Tree.{text};
 
 use super::Block;
 
 impl Block {
     // Writes the text from `at` on, and answers where it ends.
     #[cycle(writing)]
-    pub(crate) fn write(self, space: &mut [u8], at: usize) -> usize
+    fn write(self, space: &mut [u8], at: usize) -> usize
         requires { at + length (text_of self.size self.cells) ≤ length space.old }
         ensures end { result ≡ at + length (text_of self.size self.cells) }
         ensures bytes { space.new ≡ placed space.old at (text_of self.size self.cells) }
@@ -38,4 +41,13 @@ impl Block {
         space[end] = b')';
         end + 1
     }
+}
+
+// Writes the text of some cells at the front of a space, and answers its length. By itself so that a wrong call of it is
+// refused where it stands, and not in its proof.
+pub(crate) fn write_cells(cells: u64, space: &mut [u8; 190]) -> usize
+    ensures length { result ≡ length (text (tree_of 6 cells)) }
+    ensures bytes { space.new ≡ in_front (text (tree_of 6 cells)) space.old }
+{
+    Block::of_64(cells).write(space, 0)
 }

@@ -1,8 +1,8 @@
 ghost use Rattle.std.specs.Prelude.{◌≡◌, refl};
-ghost use Rattle.trees.specs.Cells.{trees_of_cells, cut, trees_kind};
+ghost use Rattle.trees.specs.Cells.{trees_of_cells, trees_kind};
 ghost use Rattle.trees.specs.KindLaws.{trees_laws};
 
-use crate::block::Block;
+use crate::block::cut;
 use crate::trees::Trees;
 use shares::Share;
 
@@ -37,15 +37,4 @@ fn of_cells(cells: u64) -> Trees
     ensures { result ≡ trees_of_cells cells }
 {
     Trees { cells }
-}
-
-// Each filled leaf cut in two: the cells kept and the cells lent.
-fn cut(cells: u64) -> Option<(u64, u64)>
-    ensures { result ≡ cut cells }
-{
-    if cells == 0 {
-        return None;
-    }
-    let kept = Block::of_64(cells).kept()?;
-    Some((kept, cells - kept))
 }

@@ -4,7 +4,7 @@ use Rattle.trees.specs.Tree.{text}
 use Rattle.trees.specs.Cells.{tree_of}
 use Rattle.trees.specs.Block.{level, text_of, placed}
 use Rattle.trees.specs.Texts.{text_short}
-use Rattle.trees.proofs.trees.print.write_cells.Goals as goal
+use Rattle.trees.proofs.block.write.write_cells.Goals as goal
 
 -- the block of all 64 cells
 all : (n : ℕ) → text_of 64 n ≡ text (tree_of 6 n)

@@ -5,7 +5,7 @@ use Rattle.trees.specs.TreesOfCells.{cells_tree}
 use Rattle.trees.specs.Halving.{halves_add}
 use Rattle.trees.proofs.Blocks.{kept_is, refused_is}
 use Rattle.trees.specs.KindLaws.{cut_made, cut_empty, cut_cell}
-use Rattle.trees.proofs.trees.kind.cut.Goals as goal
+use Rattle.trees.proofs.block.keep.cut.Goals as goal
 
 -- the block of all 64 cells
 all : (n : ℕ) → kept_of 64 n ≡ kept_cells 6 (tree_of 6 n)
