@@ -1,6 +1,6 @@
 -- What the calls' definitions rest on holds in every state that calls reach; and a pile's own states are so reached.
 use Rattle.std.proofs.Common.{◌≡◌, ℕ, zero, suc, ◌+◌, ◌<◌, ◌≤◌, Bool, true, false, cond, not, ◌&&◌, ◌||◌, eqb, ltb, ◌⊎◌, List, [], ◌∷◌, length, Some, None, Option, sym, refl, ap, ◌∙◌, ap₂, inl, inr, ⊎_elim, arith}
-use Rattle.std.specs.List.{list_any}
+use Rattle.std.specs.List.{filter, list_any}
 use mathlib.Core.List.{Memᴰ}
 use Rattle.std.proofs.lemmas.Bool.{eqb-true, eqb-false, eq-eqb, ne_eqb, cases_Bool, cond-true, cond-false, or_cases, or_parts, or_left, or_right, cases_lt, not-false, leb-true, and_from}
 use Rattle.lending.specs.declared.lease.Lease.{Lease}
@@ -9,7 +9,7 @@ use Rattle.lending.specs.Office.{State, with_today}
 use Rattle.lending.specs.Outcome.{Outcome, answering, and_then, unless}
 use Rattle.lending.specs.Roll.{find, lends, lenders, lender_then, under, plus}
 use Rattle.lending.specs.Calls.{unlike, bad_day, due_by, do_set_day}
-use Rattle.lending.specs.Above.{yields}
+use Rattle.lending.specs.Above.{downward}
 use Rattle.lending.specs.Perform.{perform}
 use Rattle.lending.specs.Outcome.Call.{day}
 use Rattle.lending.specs.Outcome.Answer.{done, number}
@@ -25,7 +25,8 @@ use Rattle.lending.proofs.Invariant.{Inv, standing_part, share_in, total_parts}
 use Rattle.lending.proofs.Families.{inv_low, fam, step, lower_out, family_total}
 use Rattle.lending.proofs.Yielding.{lender_joins}
 use Rattle.lending.proofs.Merging.{shares_join}
-use Rattle.lending.proofs.Recalling.{Granted, day_granted, lapsing, in_lapsing}
+use Rattle.lending.proofs.Sweeping.{Sweeps, due_granted, day_performs}
+use Rattle.lending.proofs.Returning.{inv_sweeps}
 use Rattle.lending.proofs.Theorem.{kept}
 
 module _ {S : Type 0} (roll : List (Lease S)) (n : ℕ) where
@@ -103,25 +104,16 @@ module _ {S : Type 0} (K : Kind S) (L : Laws K) (lt : ℕ → Option S) (t : Sta
   -- the day after its yields
   day_done : (d : ℕ) → bad_day t d ≡ false → (k : ℕ) × (u : State S) × (perform K t (day d) ≡ grants (number k) u)
   day_done d ok = (
-    length ns,
-    with_today d g.after,
-    cond-false (bad_day t d) (refuses (record { number = 13; level = 0 })) (answering (number (length ns)) (and_then (yields K t ns) (λ u. do_set_day u d))) ok
-        ∙ ap (λ (o : Outcome S). answering (number (length ns)) (and_then o (λ u. do_set_day u d))) g.is
-        ∙ ap (answering (number (length ns))) set,
+    length (downward (filter (due_by d) t.core.roll)),
+    with_today d (due_granted K P W t I d).after,
+    day_performs K P W t I d ok,
   )
     where
-      ns : List ℕ
-      ns = lapsing K L lt t I d
+      P : List (Lease S) → ℕ → Type 0
+      P roll issued = Inv K roll issued lt
 
-      g : Granted K L lt 0 (t.core.issued + 1) t ns
-      g = day_granted K L lt t I d
-
-      none_due : list_any (due_by d) g.after.core.roll ≡ false
-      none_due = some_is_none (due_by d) g.after.core.roll (λ x m e. let y = g.from x m in let q = leb-true x.due d e in let w = y.2.due in g.gone y.0.number (in_lapsing K L lt t I d y.0 y.1 (omega arith)) (x, m, y.2.number))
-
-      set : do_set_day g.after d ≡ grants done (with_today d g.after)
-      set = cond-false (bad_day g.after d) (refuses (record { number = 13; level = g.after.core.depth })) (unless g.after.core.depth ((list_any (due_by d) g.after.core.roll, 14) ∷ []) (grants done (with_today d g.after))) (ap (λ (k : ℕ). ltb d k || ltb 9999 d) g.same_day ∙ ok)
-          ∙ cond-false (list_any (due_by d) g.after.core.roll) (refuses (record { number = 14; level = g.after.core.depth })) (grants done (with_today d g.after)) none_due
+      W : Sweeps K P
+      W = inv_sweeps K L lt
 
   -- all under a lease is of its resource
   one_resource : (l : Lease S) (ml : Memᴰ l t.core.roll) (n : ℕ) (x : Lease S) → x.number ≤ n → Memᴰ x t.core.roll → fam K L I l ml x.number ≡ true → x.resource ≡ l.resource

@@ -9,7 +9,9 @@ pub mod Yielding
 pub mod Merging
 pub mod Numbers
 pub mod Steps
-pub mod Recalling
+pub mod Sweeping
+pub mod Returning
+pub mod Lapsing
 pub mod Theorem
 pub mod Exactness
 pub mod Layering

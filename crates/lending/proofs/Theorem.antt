@@ -1,25 +1,30 @@
 -- After every list of calls, lending is conserved.
 use Rattle.std.proofs.Common.{◌≡◌, ℕ, ◌+◌, ◌<◌, ◌≤◌, Bool, true, false, cond, not, ◌&&◌, ◌⊎◌, List, [], ◌∷◌, length, Some, None, Option, unwrap_or, sym, refl, ap, ◌∙◌, subst, ap₂, subst₂, inl, inr, ⊎_elim, arith}
+use Rattle.std.specs.List.{filter}
 use mathlib.Core.List.{Memᴰ}
-use Rattle.std.proofs.lemmas.Bool.{cases_lt, cond-false}
+use Rattle.std.proofs.lemmas.Bool.{cases_lt, cond-true, cond-false}
 use Rattle.lending.specs.declared.lease.Lease.{Lease}
 use Rattle.shares.specs.Kind.{Kind, Laws}
-use Rattle.lending.specs.Office.{Core, State, SetUp}
-use Rattle.lending.specs.Outcome.{Call, Answer, Outcome, answering}
-use Rattle.lending.specs.Roll.{find, live}
+use Rattle.lending.specs.Office.{Core, State, SetUp, with_today}
+use Rattle.lending.specs.Outcome.{Call, Answer, Outcome, answering, and_then}
+use Rattle.lending.specs.Roll.{find, live, family}
 use Rattle.lending.specs.Perform.{perform, Ends, Does}
-use Rattle.lending.specs.Above.{recall_all, standing_of}
-use Rattle.lending.specs.Outcome.Call.{recall}
-use Rattle.lending.specs.Outcome.Answer.{number, share}
+use Rattle.lending.specs.Above.{yields, recall_all, downward, standing_of}
+use Rattle.lending.specs.Calls.{bad_day, due_by, do_set_day}
+use Rattle.lending.specs.Outcome.Call.{recall, hand_in}
+use Rattle.lending.specs.Outcome.Answer.{number, share, refused}
 use Rattle.lending.specs.Outcome.Outcome.{refuses, tells, grants}
-use Rattle.lending.specs.History.{Moment, Leads, lent, yielded, merged, recalled, lapsed, closings, closed_between}
+use Rattle.lending.specs.History.{Moment, Leads, lent, yielded, merged, recalled as recalled_in, lapsed, closings, closed_between}
+use Rattle.lending.specs.Returns.{TakenBack, EveryRecallTakesBack, EveryHandInTakesBack, EveryDayComes}
 use Rattle.lending.specs.Promise.{Returned, Conserved, LendingConserved, EveryCallConserves}
-use Rattle.lending.proofs.Rolls.{in_find}
+use Rattle.lending.proofs.Rolls.{in_find, find_in}
 use Rattle.lending.proofs.Invariant.{Inv, writes_when_alone, alone_when_writes}
 use Rattle.lending.proofs.Families.{family_joins}
 use Rattle.lending.proofs.Numbers.{Has, has_live, hasnt_live, has_or_not}
 use Rattle.lending.proofs.Steps.{Step, Good, good}
-use Rattle.lending.proofs.Recalling.{Granted, recall_granted, root_in_numbers, numbers}
+use Rattle.lending.proofs.Sweeping.{Granted, gone, day_performs}
+use Rattle.lending.proofs.Lapsing.{lapsed as lapsed_all, day_came}
+use Rattle.lending.proofs.Returning.{inv_sweeps, recalled as recalled_all, root_in, taken_back}
 
 module _ {S : Type 0} (K : Kind S) (L : Laws K) where
   -- what a list of calls that led to t has kept
@@ -27,7 +32,7 @@ module _ {S : Type 0} (K : Kind S) (L : Laws K) where
     pub inv : Inv K t.core.roll t.core.issued (lent K ms)
     pub once : (n : ℕ) → 1 ≤ n → n ≤ t.core.issued → (Has t.core.roll n × (closings ms t n ≡ 0)) ⊎ ((Has t.core.roll n → ⊥) × (closings ms t n ≡ 1))
     pub beyond : (n : ℕ) → t.core.issued < n → closings ms t n ≡ 0
-    pub counts : t.core.issued ≡ length t.core.roll + yielded ms + merged ms + recalled ms + lapsed ms
+    pub counts : t.core.issued ≡ length t.core.roll + yielded ms + merged ms + recalled_in ms + lapsed ms
 
   pub inv_empty : Inv K [] 0 (λ n. None)
   inv_empty = record {
@@ -111,33 +116,48 @@ module _ {S : Type 0} (K : Kind S) (L : Laws K) where
 
   -- a recall of a live lease
   module _ (ms : List (Moment S)) (t : State S) (k : Kept ms t) (l : Lease S) (ml : Memᴰ l t.core.roll) where
-    g : Granted K L (lent K ms) l.number l.lender t (numbers K L (lent K ms) t k.inv l ml)
-    g = recall_granted K L (lent K ms) t k.inv l ml
+    g : Granted K (λ roll issued. Inv K roll issued (lent K ms)) (inv_sweeps K L (lent K ms)) t (downward (family t.core.roll l.number))
+    g = recalled_all K L (lent K ms) t k.inv l ml
 
-    performs : perform K t (recall l.number) ≡ grants (number (length (numbers K L (lent K ms) t k.inv l ml))) g.after
-    performs = cond-false (not (live t.core.roll l.number)) (refuses (record { number = 6; level = 0 })) (recall_all K t l.number) (ap not (has_live t.core.roll l.number k.inv.rising (l, ml, refl)))
-        ∙ ap (answering (number (length (numbers K L (lent K ms) t k.inv l ml)))) g.is
+    count : ℕ
+    count = length (downward (family t.core.roll l.number))
+
+    is_live : live t.core.roll l.number ≡ true
+    is_live = has_live t.core.roll l.number k.inv.rising (l, ml, refl)
+
+    all_back : recall_all K t l.number ≡ grants (number count) g.after
+    unfolding count
+    all_back = ap (answering (number (length (downward (family t.core.roll l.number))))) g.is
+
+    performs : perform K t (recall l.number) ≡ grants (number count) g.after
+    performs = cond-false (not (live t.core.roll l.number)) (refuses (record { number = 6; level = 0 })) (recall_all K t l.number) (ap not is_live) ∙ all_back
+
+    hands_in : perform K t (hand_in l.number) ≡ grants (number count) g.after
+    hands_in = cond-true (live t.core.roll l.number) (recall_all K t l.number) (tells (number 0)) is_live ∙ all_back
+
+    -- what it gives its lender back, by whichever call
+    taken : (a : Answer S) (u : State S) → Ends (grants (number count) g.after) t a u → (s : S) × (lent K ms l.number ≡ Some s) × TakenBack K t u l s
+    unfolding g
+    taken a u ends = let d = k.inv.defined l ml in (d.0, d.1, taken_back K L (lent K ms) t k.inv l ml d.0 d.1 u ends.1)
+
+    recalled : (a : Answer S) (u : State S) → Does K t (recall l.number) a u → Ends (grants (number count) g.after) t a u
+    recalled a u does = subst (λ (o : Outcome S). Ends o t a u) performs does
+
+    handed_in : (a : Answer S) (u : State S) → Does K t (hand_in l.number) a u → Ends (grants (number count) g.after) t a u
+    handed_in a u does = subst (λ (o : Outcome S). Ends o t a u) hands_in does
 
     returned : (a : Answer S) (u : State S) → Does K t (recall l.number) a u → (s : S) × (lent K ms l.number ≡ Some s) × Returned K t u l s a
+    unfolding g
     returned a u does =
-        let d = k.inv.defined l ml in
-        let ends : Ends (grants (number (length (numbers K L (lent K ms) t k.inv l ml))) g.after) t a u = subst (λ (o : Outcome S). Ends o t a u) performs does in (
-          d.0,
-          d.1,
+        let ends = recalled a u does in
+        let b = taken a u ends in (
+          b.0,
+          b.1,
           record {
-            granted = (length (numbers K L (lent K ms) t k.inv l ml), ends.0);
-            closed = ap (λ (k : Core S). live k.roll l.number) ends.1 ∙ hasnt_live g.after.core.roll l.number (g.gone l.number (root_in_numbers K L (lent K ms) t k.inv l ml));
-            lender_gains = λ nz.
-                let p = k.inv.lender l ml nz in
-                let x = g.gains p.lower (root_in_numbers K L (lent K ms) t k.inv l ml) p.its p.among p.is d.0 d.1 in
-                record {
-                  then_lease = p.its;
-                  now_lease = x.0;
-                  was_live = ap (find t.core.roll) (sym p.is) ∙ in_find 0 t.core.roll k.inv.rising p.its p.among;
-                  is_live = ap (λ (k : Core S). find k.roll l.lender) ends.1 ∙ ap (find g.after.core.roll) (sym x.2) ∙ in_find 0 g.after.core.roll g.inv.rising x.0 x.1;
-                  gained = x.3;
-                };
-            house_gains = λ z. let w = k.inv.first l ml z in let v = d.1 in cc;
+            granted = (count, ends.0);
+            closed = ap (λ (k : Core S). live k.roll l.number) ends.1 ∙ hasnt_live g.after.core.roll l.number (gone K (λ roll issued. Inv K roll issued (lent K ms)) (inv_sweeps K L (lent K ms)) t (downward (family t.core.roll l.number)) g l.number (root_in K L (lent K ms) t k.inv l ml));
+            lender_gains = b.2.gained;
+            house_gains = λ z. let w = k.inv.first l ml z in let v = b.1 in cc;
           },
         )
 
@@ -163,6 +183,35 @@ module _ {S : Type 0} (K : Kind S) (L : Laws K) where
 
 pub lending_conserved : {S : Type 0} (K : Kind S) → Laws K → LendingConserved K
 lending_conserved K L start t up ms leads = conserved K L ms t (kept K L start up ms t leads)
+
+module _ {S : Type 0} (K : Kind S) (L : Laws K) where
+  pub every_recall_takes_back : EveryRecallTakesBack K
+  every_recall_takes_back s t n a does = record {
+    after = λ start up ms leads l found.
+        let k = kept K L start up ms s leads in let f = find_in s.core.roll n l found in
+        subst (λ (m : ℕ). Does K s (recall m) a t → (x : S) × (lent K ms m ≡ Some x) × TakenBack K s t l x) f.1
+            (λ d. taken K L ms s k l f.0 a t (recalled K L ms s k l f.0 a t d)) does;
+  }
+
+  pub every_hand_in_takes_back : EveryHandInTakesBack K
+  every_hand_in_takes_back s t n a does = record {
+    after = λ start up ms leads l found.
+        let k = kept K L start up ms s leads in let f = find_in s.core.roll n l found in
+        subst (λ (m : ℕ). Does K s (hand_in m) a t → (x : S) × (lent K ms m ≡ Some x) × TakenBack K s t l x) f.1
+            (λ d. taken K L ms s k l f.0 a t (handed_in K L ms s k l f.0 a t d)) does;
+  }
+
+  pub every_day_comes : EveryDayComes K
+  unfolding lapsed_all
+  every_day_comes s t d k does = record {
+    after = λ start up ms leads.
+        let I = (kept K L start up ms s leads).inv in
+        day_came K L ms s I d t (go ms I (bad_day s d) refl);
+  }
+    where
+      go : (ms : List (Moment S)) (I : Inv K s.core.roll s.core.issued (lent K ms)) → (b : Bool) → bad_day s d ≡ b → t.core ≡ (with_today d (lapsed_all K L ms s I d).after).core
+      go ms I true e = absurd (let w : ◌≡◌ {A = Answer S} (number k) (refused (record { number = 13; level = 0 })) = (subst (λ (o : Outcome S). Ends o s (number k) t) (cond-true (bad_day s d) (refuses (record { number = 13; level = 0 })) (answering (number (length (downward (filter (due_by d) s.core.roll)))) (and_then (yields K s (downward (filter (due_by d) s.core.roll))) (λ u. do_set_day u d))) e) does).0 in cc)
+      go ms I false e = (subst (λ (o : Outcome S). Ends o s (number k) t) (day_performs K (λ roll issued. Inv K roll issued (lent K ms)) (inv_sweeps K L (lent K ms)) s I d e) does).1
 
 pub every_call_conserves : {S : Type 0} (K : Kind S) → Laws K → EveryCallConserves K
 every_call_conserves K L s c a t does = record { after = λ start up ms leads. lending_conserved K L start t up (record { before = s; call = c; answer = a } ∷ ms) (leads, does) }

@@ -46,3 +46,12 @@ module _ {S A : Type 0} (K : Kind S) where
         go : together K (map f (filter p xs)) ≡ total K (where_is K p (λ y. Some (f y))) xs → (b : Bool) → together K (map f (cond b (x ∷ filter p xs) (filter p xs))) ≡ plus? K (cond b (Some (f x)) (nothing K)) (total K (where_is K p (λ y. Some (f y))) xs)
         go ih true = ap (plus? K (Some (f x))) ih
         go ih false = ih ∙ sym (nothing_plus K L (total K (where_is K p (λ y. Some (f y))) xs))
+
+    -- what those come to that are kept
+    pub total_filter : (f : A → Option S) (p : A → Bool) (ls : List A) → total K f (filter p ls) ≡ total K (where_is K p f) ls
+    total_filter f p [] = refl
+    total_filter f p (x ∷ xs) = go (p x) (total_filter f p xs)
+      where
+        go : (b : Bool) → total K f (filter p xs) ≡ total K (where_is K p f) xs → total K f (cond b (x ∷ filter p xs) (filter p xs)) ≡ plus? K (cond b (f x) (nothing K)) (total K (where_is K p f) xs)
+        go true e = ap (plus? K (f x)) e
+        go false e = e ∙ sym (nothing_plus K L (total K (where_is K p f) xs))

@@ -7,6 +7,7 @@ pub mod Above
 pub mod Perform
 pub mod History
 pub mod Promise
+pub mod Returns
 pub mod Exact
 pub mod Orderly
 pub mod Layers

@@ -1,4 +1,5 @@
 ghost use Rattle.lending.specs.Promise.{LendingConserved, EveryCallConserves};
+ghost use Rattle.lending.specs.Returns.{EveryRecallTakesBack, EveryHandInTakesBack, EveryDayComes};
 ghost use Rattle.lending.specs.Exact.{CallsExact};
 ghost use Rattle.lending.specs.Layers.{LayerIsOffice};
 ghost use Rattle.lending.specs.Play.{PlaysAreHistories};
@@ -11,6 +12,9 @@ use shares::Share;
 pub fn lending_is_conserved<S: Share>()
     ensures always { LendingConserved S.kind }
     ensures each { EveryCallConserves S.kind }
+    ensures recalls { EveryRecallTakesBack S.kind }
+    ensures hand_ins { EveryHandInTakesBack S.kind }
+    ensures days { EveryDayComes S.kind }
 {}
 
 // States what the definitions of the calls rest on, of every state that calls reach.

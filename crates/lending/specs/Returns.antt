@@ -1,0 +1,71 @@
+-- What a recall and a day leave, and what lenders get back by them. Beside the definitions, which yield one lease after
+-- another, this says what those yields come to.
+use Rattle.std.specs.Prelude.{◌≡◌, ℕ, ◌<◌, not, ◌&&◌, ◌||◌, List, [], ◌∷◌, map, Some, Option, ◌==◌, ◌≢◌}
+use Rattle.std.specs.List.{filter}
+use Rattle.shares.specs.Kind.{Kind, then}
+use Rattle.lending.specs.declared.lease.Lease.{Lease}
+use Rattle.lending.specs.Office.{State, SetUp, with_roll, with_today}
+use Rattle.lending.specs.Roll.{find, under, change, with_share, plus}
+use Rattle.lending.specs.Outcome.{Answer}
+use Rattle.lending.specs.Outcome.Call.{recall, day, hand_in}
+use Rattle.lending.specs.Outcome.Answer.{number}
+use Rattle.lending.specs.Calls.{due_by}
+use Rattle.lending.specs.Perform.{Does}
+use Rattle.lending.specs.History.{Moment, Leads, lent}
+use Rattle.lending.specs.Promise.{Live, Gains}
+
+module _ {S : Type 0} where
+  -- the roll without lease n and those under it
+  abbrev pub without_family : List (Lease S) → ℕ → List (Lease S)
+  without_family roll n = filter (λ l. not ((l.number == n) || under roll l.number n)) roll
+
+  -- a lease with s joined to its share
+  abbrev pub gaining : Kind S → S → Lease S → Lease S
+  gaining K s l = with_share (plus K l.share s) l
+
+  -- Lease l of s, which was lent x, has been recalled.
+  pub record TakenBack (K : Kind S) (s t : State S) (l : Lease S) (x : S) : Type 0 where
+    -- The roll is the old one without that lease and those under it; nobody else's lease is touched, and nothing else is:
+    -- the lender alone has gained x,
+    pub left : t.core ≡ (with_roll (change l.lender (gaining K x) (without_family s.core.roll l.number)) s).core
+    -- and just that, which its share joins with.
+    pub gained : (l.lender ≢ 0) → Gains K s t l.lender x
+
+  -- Whatever list of calls led to s from an office that was set up empty: where lease n is live in s, and t is left, it was
+  -- recalled, and its lender has gained exactly what it was lent.
+  pub record TakesBack (K : Kind S) (s : State S) (n : ℕ) (t : State S) : Type 0 where
+    pub after : (start : State S) → SetUp start → (ms : List (Moment S)) → Leads K start ms s → (l : Lease S) → find s.core.roll n ≡ Some l → (x : S) × (lent K ms n ≡ Some x) × TakenBack K s t l x
+
+  -- what some leases were lent, all together
+  abbrev pub lent_together : Kind S → List (Moment S) → List (Lease S) → Option S
+  lent_together K ms [] = Some K.empty
+  lent_together K ms (l ∷ ls) = then (lent K ms l.number) (λ x. then (lent_together K ms ls) (λ y. K.join x y))
+
+  -- the leases that n lent and that fall due by day d
+  abbrev pub due_from : List (Lease S) → ℕ → ℕ → List (Lease S)
+  due_from roll d n = filter (λ l. due_by d l && l.lender == n) roll
+
+  -- The day d has come between s and t.
+  pub record DayCame (K : Kind S) (ms : List (Moment S)) (s t : State S) (d : ℕ) : Type 0 where
+    -- No live lease is due by it.
+    pub none_due : (l : Lease S) → Live t l → d < l.due
+    -- Nothing but the roll and today has changed,
+    pub left : t.core ≡ (with_roll t.core.roll (with_today d s)).core
+    -- and every lease that was not due by it is as it was, but for its share,
+    pub others : map (with_share K.empty) t.core.roll ≡ map (with_share K.empty) (filter (λ l. not (due_by d l)) s.core.roll)
+    -- which has been joined with what its leases that fell due were lent.
+    pub got_back : (l m : Lease S) → Live s l → Live t m → m.number ≡ l.number → (x : S) × (lent_together K ms (due_from s.core.roll d l.number) ≡ Some x) × (K.join l.share x ≡ Some m.share)
+
+  -- Whatever list of calls led to s from an office that was set up empty, the day came as it should.
+  pub record DayComes (K : Kind S) (s : State S) (d : ℕ) (t : State S) : Type 0 where
+    pub after : (start : State S) → SetUp start → (ms : List (Moment S)) → Leads K start ms s → DayCame K ms s t d
+
+  -- So it is with every recall, every hand-in and every day that is granted.
+  abbrev pub EveryRecallTakesBack : Kind S → Type 0
+  EveryRecallTakesBack K = (s t : State S) (n : ℕ) (a : Answer S) → Does K s (recall n) a t → TakesBack K s n t
+
+  abbrev pub EveryHandInTakesBack : Kind S → Type 0
+  EveryHandInTakesBack K = (s t : State S) (n : ℕ) (a : Answer S) → Does K s (hand_in n) a t → TakesBack K s n t
+
+  abbrev pub EveryDayComes : Kind S → Type 0
+  EveryDayComes K = (s t : State S) (d k : ℕ) → Does K s (day d) (number k) t → DayComes K s d t
