@@ -12,6 +12,7 @@ pub mod Steps
 pub mod Sweeping
 pub mod Returning
 pub mod Lapsing
+pub mod Going
 pub mod Theorem
 pub mod Exactness
 pub mod Layering
