@@ -11,7 +11,7 @@ use Rattle.lending.specs.Roll.{find, under, change, close, family, with_share, p
 use Rattle.lending.specs.Above.{downward}
 use Rattle.lending.specs.Calls.{due_by}
 use Rattle.lending.specs.History.{Moment, lent}
-use Rattle.lending.specs.Returns.{TakenBack, DayCame, gaining, without_family, lent_together, due_from}
+use Rattle.lending.specs.Effects.{TakenBack, DayCame, gaining, without_family, lent_together, due_from}
 use Rattle.shares.proofs.Sums.{plus?, nothing, plus_join, plus_assoc, plus_nothing, nothing_plus, plus_comm}
 use Rattle.lending.proofs.Joins.{part_defined, plus_then}
 use Rattle.lending.proofs.Totals.{total, where_is, total_ext, total_plus, total_map, total_nothing, total_filter}

@@ -15,7 +15,7 @@ use Rattle.lending.specs.Limits.{last_day}
 use Rattle.lending.specs.Perform.{perform}
 use Rattle.lending.specs.Outcome.Call.{day}
 use Rattle.lending.specs.Outcome.Answer.{done, number}
-use Rattle.lending.specs.Returns.{gaining}
+use Rattle.lending.specs.Effects.{gaining}
 use Rattle.lending.specs.Outcome.Outcome.{refuses, grants}
 use Rattle.lending.proofs.Rolls.{Rising, rising_above, in_find, find_in, absent_found, some_is_true, some_is_none, some_is_found, mem_map, map_mem, mem_keep, keep_mem, rising_keep, mem_close, close_mem}
 use Rattle.lending.proofs.Families.{Low, NoZero, in_family, family_step, above_lower}

@@ -11,11 +11,11 @@ use Rattle.lending.specs.Roll.{find, live, family}
 use Rattle.lending.specs.Perform.{perform, Ends, Does}
 use Rattle.lending.specs.Above.{yields, recall_all, downward, standing_of}
 use Rattle.lending.specs.Calls.{bad_day, due_by, do_set_day}
-use Rattle.lending.specs.Outcome.Call.{recall, hand_in}
+use Rattle.lending.specs.Outcome.Call.{recall, standing, hand_in}
 use Rattle.lending.specs.Outcome.Answer.{number, share, refused}
 use Rattle.lending.specs.Outcome.Outcome.{refuses, tells, grants}
 use Rattle.lending.specs.History.{Moment, Leads, lent, yielded, merged, recalled as recalled_in, lapsed, closings, closed_between}
-use Rattle.lending.specs.Returns.{TakenBack, EveryRecallTakesBack, EveryHandInTakesBack, EveryDayComes}
+use Rattle.lending.specs.Effects.{TakenBack, EveryRecallTakesBack, EveryHandInTakesBack, EveryDayComes, EveryStandingTells}
 use Rattle.lending.specs.Promise.{Returned, Conserved, LendingConserved, EveryCallConserves}
 use Rattle.lending.proofs.Rolls.{in_find, find_in}
 use Rattle.lending.proofs.Invariant.{Inv, writes_when_alone, alone_when_writes}
@@ -215,3 +215,16 @@ module _ {S : Type 0} (K : Kind S) (L : Laws K) where
 
 pub every_call_conserves : {S : Type 0} (K : Kind S) → Laws K → EveryCallConserves K
 every_call_conserves K L s c a t does = record { after = λ start up ms leads. lending_conserved K L start t up (record { before = s; call = c; answer = a } ∷ ms) (leads, does) }
+
+pub every_standing_tells : {S : Type 0} (K : Kind S) → Laws K → EveryStandingTells K
+every_standing_tells K L s resource holder x may does is = record {
+  joined = x;
+  stands = does;
+  conserved = every_call_conserves K L s (standing resource holder) (share x) s does;
+  exactly = is;
+  alone = λ start up ms leads some.
+      let w = (lending_conserved K L start s up ms leads).writes resource holder some (share x) s does in (
+        λ t. w.0 (ap share (is.0 t)),
+        λ nobody. is.1 (let e = w.1 nobody in cc),
+      );
+}

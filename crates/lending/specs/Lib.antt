@@ -7,7 +7,7 @@ pub mod Above
 pub mod Perform
 pub mod History
 pub mod Promise
-pub mod Returns
+pub mod Effects
 pub mod Exact
 pub mod Orderly
 pub mod Layers

@@ -1,5 +1,5 @@
 ghost use Rattle.lending.specs.Promise.{LendingConserved, EveryCallConserves};
-ghost use Rattle.lending.specs.Returns.{EveryRecallTakesBack, EveryHandInTakesBack, EveryDayComes};
+ghost use Rattle.lending.specs.Effects.{EveryRecallTakesBack, EveryHandInTakesBack, EveryDayComes, EveryStandingTells};
 ghost use Rattle.lending.specs.Exact.{CallsExact};
 ghost use Rattle.lending.specs.Layers.{LayerIsOffice};
 ghost use Rattle.lending.specs.Play.{PlaysAreHistories};
@@ -15,6 +15,7 @@ pub fn lending_is_conserved<S: Share>()
     ensures recalls { EveryRecallTakesBack S.kind }
     ensures hand_ins { EveryHandInTakesBack S.kind }
     ensures days { EveryDayComes S.kind }
+    ensures standings { EveryStandingTells S.kind }
 {}
 
 // States what the definitions of the calls rest on, of every state that calls reach.

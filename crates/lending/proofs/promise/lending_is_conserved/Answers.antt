@@ -1,4 +1,4 @@
-use Rattle.lending.proofs.Theorem.{lending_conserved, every_call_conserves, every_recall_takes_back, every_hand_in_takes_back, every_day_comes}
+use Rattle.lending.proofs.Theorem.{lending_conserved, every_call_conserves, every_recall_takes_back, every_hand_in_takes_back, every_day_comes, every_standing_tells}
 use Rattle.lending.proofs.promise.lending_is_conserved.Goals as goal
 
 pub returns : goal.returns
@@ -11,4 +11,5 @@ returns g c =
       recalls = every_recall_takes_back K L;
       hand_ins = every_hand_in_takes_back K L;
       days = every_day_comes K L;
+      standings = every_standing_tells K L;
     }

@@ -1,18 +1,18 @@
--- What a recall and a day leave, and what lenders get back by them. Beside the definitions, which yield one lease after
--- another, this says what those yields come to.
-use Rattle.std.specs.Prelude.{◌≡◌, ℕ, ◌<◌, not, ◌&&◌, ◌||◌, List, [], ◌∷◌, map, Some, Option, ◌==◌, ◌≢◌}
+-- What the calls above an office come to. Beside the definitions, which yield one lease after another, this says what those
+-- yields leave, and what lenders get back by them.
+use Rattle.std.specs.Prelude.{◌≡◌, ℕ, ◌<◌, Bool, T, not, ◌&&◌, ◌||◌, ◌↔◌, List, [], ◌∷◌, map, Some, Option, ◌==◌, ◌≢◌}
 use Rattle.std.specs.List.{filter}
 use Rattle.shares.specs.Kind.{Kind, then}
 use Rattle.lending.specs.declared.lease.Lease.{Lease}
 use Rattle.lending.specs.Office.{State, SetUp, with_roll, with_today}
 use Rattle.lending.specs.Roll.{find, under, change, with_share, plus}
 use Rattle.lending.specs.Outcome.{Answer}
-use Rattle.lending.specs.Outcome.Call.{recall, day, hand_in}
-use Rattle.lending.specs.Outcome.Answer.{number}
+use Rattle.lending.specs.Outcome.Call.{recall, day, standing, hand_in}
+use Rattle.lending.specs.Outcome.Answer.{number, share}
 use Rattle.lending.specs.Calls.{due_by}
 use Rattle.lending.specs.Perform.{Does}
 use Rattle.lending.specs.History.{Moment, Leads, lent}
-use Rattle.lending.specs.Promise.{Live, Gains}
+use Rattle.lending.specs.Promise.{Live, Open, NobodyElse, Gains, CallConserves}
 
 module _ {S : Type 0} where
   -- the roll without lease n and those under it
@@ -60,6 +60,15 @@ module _ {S : Type 0} where
   pub record DayComes (K : Kind S) (s : State S) (d : ℕ) (t : State S) : Type 0 where
     pub after : (start : State S) → SetUp start → (ms : List (Moment S)) → Leads K start ms s → DayCame K ms s t d
 
+  -- Whether a holder may write: exactly if its standing is the whole. In an open resource, whatever list of calls led to s from
+  -- an office that was set up empty, that is so exactly if nobody else has a lease of it.
+  pub record MayWrite (K : Kind S) (s : State S) (resource holder : ℕ) (may : Bool) : Type 0 where
+    pub joined : S
+    pub stands : Does K s (standing resource holder) (share joined) s
+    pub conserved : CallConserves K s (standing resource holder) (share joined) s
+    pub exactly : T may ↔ (joined ≡ K.whole)
+    pub alone : (start : State S) → SetUp start → (ms : List (Moment S)) → Leads K start ms s → Open s resource → T may ↔ NobodyElse s resource holder
+
   -- So it is with every recall, every hand-in and every day that is granted.
   abbrev pub EveryRecallTakesBack : Kind S → Type 0
   EveryRecallTakesBack K = (s t : State S) (n : ℕ) (a : Answer S) → Does K s (recall n) a t → TakesBack K s n t
@@ -69,3 +78,6 @@ module _ {S : Type 0} where
 
   abbrev pub EveryDayComes : Kind S → Type 0
   EveryDayComes K = (s t : State S) (d k : ℕ) → Does K s (day d) (number k) t → DayComes K s d t
+
+  abbrev pub EveryStandingTells : Kind S → Type 0
+  EveryStandingTells K = (s : State S) (resource holder : ℕ) (x : S) (may : Bool) → Does K s (standing resource holder) (share x) s → T may ↔ (x ≡ K.whole) → MayWrite K s resource holder may
