@@ -7,12 +7,21 @@
 
 mod call;
 mod calls;
+mod days;
 mod questions;
 mod read;
+mod recalls;
+mod slips;
+mod standings;
+mod sweep;
 mod values;
 
 pub use call::{Answer, Call};
 pub use calls::{assign, delegate, merge, open, set_day, yield_lease};
 pub use questions::{count, issued, lease, lease_at, leases, today};
+pub use days::day;
 pub use read::NotACall;
+pub use recalls::recall;
+pub use slips::Slip;
+pub use standings::{may_write, standing};
 pub use values::make;

@@ -81,6 +81,12 @@ module _ {S : Type 0} (K : Kind S) where
         go None f e = absurd (let z : ◌≡◌ {A = ℕ} 0 1 = cc in omega arith)
         go (Some l) f e = let r = find_in s.core.roll n l f in let q = rising_above 0 s.core.roll (orderly_rises s.core.roll s.core.issued o) l r.0 in let w = r.1 in omega arith
 
+    -- a live lease's recall is granted
+    pub recall_granted : (n : ℕ) → live s.core.roll n ≡ true → (u : State S) × (recall_all K s n ≡ grants (number (length (downward (family s.core.roll n)))) u)
+    recall_granted n e =
+        let g = family_granted K Order (orderly_sweeps K) s o n (numbered n e) in
+        (g.after, ap (answering (number (length (downward (family s.core.roll n))))) g.is)
+
     -- what the yields of a recall leave, the recall leaves
     pub recall_ends : (n : ℕ) → live s.core.roll n ≡ true → (t : State S) (k : ℕ) → k ≡ length (downward (family s.core.roll n)) → ((u : State S) → yields K s (downward (family s.core.roll n)) ≡ grants done u → t.core ≡ u.core) → Ends (recall_all K s n) s (number k) t
     recall_ends n e t k len h =
