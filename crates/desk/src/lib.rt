@@ -5,14 +5,8 @@
 // clauses stand on each call, and in no type, since each public call is to carry the promise whole.
 #![tactic(auto)]
 
-mod call;
 mod calls;
 mod questions;
-mod read;
-mod values;
 
-pub use call::{Answer, Call};
 pub use calls::{assign, delegate, merge, open, set_day, yield_lease};
 pub use questions::{count, issued, lease, lease_at, leases, today};
-pub use read::NotACall;
-pub use values::make;

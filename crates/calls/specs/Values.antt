@@ -5,10 +5,10 @@ use Rattle.lending.specs.Outcome as office
 use Rattle.lending.specs.Outcome.Call.{open_resource, delegate, yield, merge, assign, new_day, ask_count, ask_issued, ask_today, ask_lease_at, ask_lease}
 use Rattle.lending.specs.Outcome.Answer.{done, number, lease, refused}
 use Rattle.lending.specs.Told.{meant}
-use Rattle.desk.specs.declared.call.Call.{Call}
-use Rattle.desk.specs.declared.call.Call.TheVariants.{Open, Delegate, Yield, Merge, Assign, SetDay, Count, Issued, Today, LeaseAt, LeaseOf}
-use Rattle.desk.specs.declared.call.Answer.{Answer}
-use Rattle.desk.specs.declared.call.Answer.TheVariants as answers
+use Rattle.calls.specs.declared.call.Call.{Call}
+use Rattle.calls.specs.declared.call.Call.TheVariants.{Open, Delegate, Yield, Merge, Assign, SetDay, Count, Issued, Today, LeaseAt, LeaseOf}
+use Rattle.calls.specs.declared.call.Answer.{Answer}
+use Rattle.calls.specs.declared.call.Answer.TheVariants as answers
 
 -- the call that a value stands for
 abbrev pub called : Call → office.Call

@@ -2,11 +2,12 @@ ghost use Rattle.std.specs.Prelude.{◌≡◌, false, is_ok};
 ghost use Rattle.lending.specs.Perform.{Does};
 ghost use Rattle.lending.specs.Promise.{LendingConserved, CallConserves};
 ghost use Rattle.office.specs.Lawful.{unused};
-ghost use Rattle.desk.specs.Values.{called, answered};
+ghost use Rattle.calls.specs.Values.{called, answered};
 
 use crate::call::{Answer, Call};
-use crate::calls::{assign, delegate, merge, open, set_day, yield_lease};
-use crate::questions::{count, issued, lease, lease_at, today};
+use desk::{
+    assign, count, delegate, issued, lease, lease_at, merge, open, set_day, today, yield_lease,
+};
 use lending::Refusal;
 use office::Office;
 

@@ -11,10 +11,10 @@ use Rattle.std.specs.Int.{IsInRange}
 use Rattle.std.specs.Str.{NoCharPasses}
 use Rattle.std.specs.Str.Iter.{split_whitespace_rest, split_whitespace_steps}
 use Rattle.std.specs.declared.str.SplitWhitespace.{SplitWhitespace}
-use Rattle.desk.specs.declared.call.Call.{Call}
-use Rattle.desk.specs.declared.call.Call.TheVariants.{Open, Delegate, Yield, Merge, Assign, SetDay, Count, Issued, Today, LeaseAt, LeaseOf}
-use Rattle.desk.specs.Written.{name_of, numbers_of, numbered, written, Fit}
-use Rattle.desk.proofs.Words.{IsWord, Blanks, Stops, not_solid, first_word}
+use Rattle.calls.specs.declared.call.Call.{Call}
+use Rattle.calls.specs.declared.call.Call.TheVariants.{Open, Delegate, Yield, Merge, Assign, SetDay, Count, Issued, Today, LeaseAt, LeaseOf}
+use Rattle.calls.specs.Written.{name_of, numbers_of, numbered, written, Fit}
+use Rattle.calls.proofs.Words.{IsWord, Blanks, Stops, not_solid, first_word}
 
 digit_solid : (c : ℕ) → IsInRange 48 57 c → is_whitespace c ≡ false
 digit_solid c r = grind (arith, nat_tests, r)

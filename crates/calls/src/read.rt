@@ -1,8 +1,8 @@
 // Reading calls as they are written.
 ghost use Rattle.std.specs.Prelude.{◌≡◌, ℕ, List, drop, Ok, Some};
 ghost use Rattle.std.specs.Str.Iter.{split_whitespace_rest};
-ghost use Rattle.desk.specs.declared.call.Call.{Call};
-ghost use Rattle.desk.specs.Written.{name_of, numbers_of, numbered, Fit, ReadsBack, first, first_three};
+ghost use Rattle.calls.specs.declared.call.Call.{Call};
+ghost use Rattle.calls.specs.Written.{name_of, numbers_of, numbered, Fit, ReadsBack, first, first_three};
 
 use crate::call::Call;
 use std::num::ParseIntError;

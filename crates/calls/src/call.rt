@@ -1,5 +1,5 @@
 ghost use Rattle.std.specs.Prelude.{Some};
-ghost use Rattle.desk.specs.Written.{written};
+ghost use Rattle.calls.specs.Written.{written};
 
 use lending::Lease;
 use std::fmt;
