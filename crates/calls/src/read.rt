@@ -71,6 +71,10 @@ fn call_of(name: &str, numbers: [Option<u16>; 3]) -> Result<Call, NotACall>
         ("today", [None, None, None]) => Call::Today,
         ("lease_at", [Some(position), None, None]) => Call::LeaseAt { position },
         ("lease", [Some(number), None, None]) => Call::LeaseOf { number },
+        ("recall", [Some(lease), None, None]) => Call::Recall { lease },
+        ("day", [Some(day), None, None]) => Call::Day { day },
+        ("standing", [Some(resource), Some(holder), None]) => Call::Standing { resource, holder },
+        ("hand_in", [Some(lease), None, None]) => Call::HandIn { lease },
         _ => return Err(NotACall),
     })
 }

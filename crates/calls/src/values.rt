@@ -6,7 +6,8 @@ ghost use Rattle.calls.specs.Values.{called, answered};
 
 use crate::call::{Answer, Call};
 use desk::{
-    assign, count, delegate, issued, lease, lease_at, merge, open, set_day, today, yield_lease,
+    Slip, assign, count, delegate, issued, lease, lease_at, merge, open, recall, set_day, standing,
+    today, yield_lease,
 };
 use lending::Refusal;
 use office::Office;
@@ -39,5 +40,11 @@ pub fn make<O: Office>(office: &mut O, call: Call) -> Result<Answer<O::Kind>, Re
         Call::Today => Ok(Answer::Number(usize::from(today(office)))),
         Call::LeaseAt { position } => lease_at(office, usize::from(position)).map(Answer::Lease),
         Call::LeaseOf { number } => lease(office, number).map(Answer::Lease),
+        Call::Recall { lease } => recall(office, lease).map(|closed| Answer::Number(closed)),
+        Call::Day { day } => desk::day(office, day).map(|closed| Answer::Number(closed)),
+        Call::Standing { resource, holder } => {
+            Ok(Answer::Share(standing(office, resource, holder)))
+        }
+        Call::HandIn { lease } => Ok(Answer::Number(Slip::draw(lease).hand_in(office))),
     }
 }
