@@ -9,10 +9,12 @@ pub mod Yielding
 pub mod Merging
 pub mod Numbers
 pub mod Steps
+pub mod Counting
 pub mod Recalling
 pub mod Theorem
 pub mod Exactness
 pub mod Layering
 pub mod Order
 pub mod Plays
+pub mod Histories
 mod Reasons
