@@ -3,9 +3,11 @@
 #![tactic(auto)]
 
 mod call;
+mod list;
 mod read;
 mod values;
 
 pub use call::{Answer, Call};
+pub use list::{Tallies, make_all};
 pub use read::NotACall;
 pub use values::make;

@@ -1,6 +1,7 @@
 ghost use Rattle.std.specs.Prelude.{◌≡◌, false, is_ok};
 ghost use Rattle.lending.specs.Perform.{Does};
 ghost use Rattle.lending.specs.Promise.{LendingConserved, CallConserves};
+ghost use Rattle.lending.specs.Told.{told_number};
 ghost use Rattle.office.specs.Lawful.{unused};
 ghost use Rattle.calls.specs.Values.{called, answered};
 
@@ -11,6 +12,7 @@ use desk::{
 };
 use lending::Refusal;
 use office::Office;
+use shares::Share;
 
 // Makes a call that is given as a value.
 pub fn make<O: Office>(office: &mut O, call: Call) -> Result<Answer<O::Kind>, Refusal>
@@ -40,11 +42,19 @@ pub fn make<O: Office>(office: &mut O, call: Call) -> Result<Answer<O::Kind>, Re
         Call::Today => Ok(Answer::Number(usize::from(today(office)))),
         Call::LeaseAt { position } => lease_at(office, usize::from(position)).map(Answer::Lease),
         Call::LeaseOf { number } => lease(office, number).map(Answer::Lease),
-        Call::Recall { lease } => recall(office, lease).map(|closed| Answer::Number(closed)),
-        Call::Day { day } => desk::day(office, day).map(|closed| Answer::Number(closed)),
+        Call::Recall { lease } => number_closed(recall(office, lease)),
+        Call::Day { day } => number_closed(desk::day(office, day)),
         Call::Standing { resource, holder } => {
             Ok(Answer::Share(standing(office, resource, holder)))
         }
         Call::HandIn { lease } => Ok(Answer::Number(Slip::draw(lease).hand_in(office))),
     }
+}
+
+// How many leases a call closed, as its answer.
+fn number_closed<S: Share>(closed: Result<usize, Refusal>) -> Result<Answer<S>, Refusal>
+    ensures told { answered result ≡ told_number closed }
+    ensures granted { is_ok result ≡ is_ok closed }
+{
+    closed.map(|leases| Answer::Number(leases))
 }
