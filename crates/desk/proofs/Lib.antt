@@ -1,5 +1,3 @@
-pub mod Pieces
-pub mod Words
 pub mod Marking
 pub mod Closing
 pub mod Joining

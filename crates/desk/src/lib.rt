@@ -3,25 +3,21 @@
 // office that was set up empty, nobody gets back more or less than went out once this call is made (`conserved`), and so
 // it is for every list of calls (`always`). `lending_is_conserved` does nothing: it brings the theorem to the contract. The
 // clauses stand on each call, and in no type, since each public call is to carry the promise whole.
+//
+// Recall, day, standing and hand-ins stand over the office: they are made of its own calls, and refuse at level 0.
 #![tactic(auto)]
 
-mod call;
 mod calls;
 mod days;
 mod questions;
-mod read;
 mod recalls;
 mod slips;
 mod standings;
 mod sweep;
-mod values;
 
-pub use call::{Answer, Call};
 pub use calls::{assign, delegate, merge, open, set_day, yield_lease};
-pub use questions::{count, issued, lease, lease_at, leases, today};
 pub use days::day;
-pub use read::NotACall;
+pub use questions::{count, issued, lease, lease_at, leases, today};
 pub use recalls::recall;
 pub use slips::Slip;
 pub use standings::{may_write, standing};
-pub use values::make;

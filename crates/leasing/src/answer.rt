@@ -1,8 +1,8 @@
 // Making calls, and printing what comes of them.
 use crate::read::{Line, SetUp, Unreadable};
 use crate::show::{print_answer, print_roll};
+use calls::{Call, make};
 use chain::Chain;
-use desk::{Call, make};
 use ledger::Ledger;
 use lending::Lease;
 use office::Office;

@@ -1,5 +1,5 @@
 // Reading lines.
-use desk::Call;
+use calls::Call;
 use kinds::{KIND_NAMES, KindOfShare, NoSuchKind};
 use lending::MOST_ROWS;
 use std::fmt;

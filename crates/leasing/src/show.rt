@@ -1,5 +1,6 @@
 // Printing answers and the roll.
-use desk::{Answer, Call, count, issued, leases, today};
+use calls::{Answer, Call};
+use desk::{count, issued, leases, today};
 use lending::{Lease, Refusal};
 use office::Office;
 use shares::{Printed, Text};

@@ -9,6 +9,7 @@ pub mod Yielding
 pub mod Merging
 pub mod Numbers
 pub mod Steps
+pub mod Counting
 pub mod Sweeping
 pub mod Returning
 pub mod Lapsing
@@ -18,4 +19,5 @@ pub mod Exactness
 pub mod Layering
 pub mod Order
 pub mod Plays
+pub mod Histories
 mod Reasons

@@ -1,8 +1,8 @@
 // Reading calls as they are written.
 ghost use Rattle.std.specs.Prelude.{◌≡◌, ℕ, List, drop, Ok, Some};
 ghost use Rattle.std.specs.Str.Iter.{split_whitespace_rest};
-ghost use Rattle.desk.specs.declared.call.Call.{Call};
-ghost use Rattle.desk.specs.Written.{name_of, numbers_of, numbered, Fit, ReadsBack, first, first_three};
+ghost use Rattle.calls.specs.declared.call.Call.{Call};
+ghost use Rattle.calls.specs.Written.{name_of, numbers_of, numbered, Fit, ReadsBack, first, first_three};
 
 use crate::call::Call;
 use std::num::ParseIntError;
@@ -71,6 +71,10 @@ fn call_of(name: &str, numbers: [Option<u16>; 3]) -> Result<Call, NotACall>
         ("today", [None, None, None]) => Call::Today,
         ("lease_at", [Some(position), None, None]) => Call::LeaseAt { position },
         ("lease", [Some(number), None, None]) => Call::LeaseOf { number },
+        ("recall", [Some(lease), None, None]) => Call::Recall { lease },
+        ("day", [Some(day), None, None]) => Call::Day { day },
+        ("standing", [Some(resource), Some(holder), None]) => Call::Standing { resource, holder },
+        ("hand_in", [Some(lease), None, None]) => Call::HandIn { lease },
         _ => return Err(NotACall),
     })
 }

@@ -1,7 +1,7 @@
 use Rattle.std.proofs.Common.{[], ◌∷◌, ap, ◌∙◌, drop}
-use Rattle.desk.specs.Written.{numbers_of, first}
-use Rattle.desk.proofs.Pieces.{name_off, name_left, none_off, not_ok, same_value, no_fourth, Fit-drop}
-use Rattle.desk.proofs.read.CallFromStr.from_str.Goals as goal
+use Rattle.calls.specs.Written.{numbers_of, first}
+use Rattle.calls.proofs.Pieces.{name_off, name_left, none_off, not_ok, same_value, no_fourth, Fit-drop}
+use Rattle.calls.proofs.read.CallFromStr.from_str.Goals as goal
 
 pub returns-in_default : goal.returns-in_default
 returns-in_default c call f t = absurd (name_left call c.split_whitespace-words.result (c.split_whitespace-words.ensures.rest ∙ t) c.in_default.ensures.steps.1)

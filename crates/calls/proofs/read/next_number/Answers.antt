@@ -1,8 +1,8 @@
 use Rattle.std.proofs.Common.{[], ◌∷◌, arith, refl, ap, ◌∙◌, Ok, Some}
 use Rattle.std.proofs.lemmas.Fmt.{parse-decimal}
 use Rattle.std.specs.Str.Iter.{split_whitespace_rest}
-use Rattle.desk.proofs.Pieces.{number_off, number_left, none_off, not_ok, same_value}
-use Rattle.desk.proofs.read.next_number.Goals as goal
+use Rattle.calls.proofs.Pieces.{number_off, number_left, none_off, not_ok, same_value}
+use Rattle.calls.proofs.read.next_number.Goals as goal
 
 pub returns-in-None : goal.returns-in-None
 returns-in-None c [] f e = (refl, ap split_whitespace_rest c.in-None.ensures.steps.0 ∙ e)

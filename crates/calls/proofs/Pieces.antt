@@ -11,10 +11,10 @@ use Rattle.std.specs.Int.{IsInRange}
 use Rattle.std.specs.Str.{NoCharPasses}
 use Rattle.std.specs.Str.Iter.{split_whitespace_rest, split_whitespace_steps}
 use Rattle.std.specs.declared.str.SplitWhitespace.{SplitWhitespace}
-use Rattle.desk.specs.declared.call.Call.{Call}
-use Rattle.desk.specs.declared.call.Call.TheVariants.{Open, Delegate, Yield, Merge, Assign, SetDay, Count, Issued, Today, LeaseAt, LeaseOf}
-use Rattle.desk.specs.Written.{name_of, numbers_of, numbered, written, Fit}
-use Rattle.desk.proofs.Words.{IsWord, Blanks, Stops, not_solid, first_word}
+use Rattle.calls.specs.declared.call.Call.{Call}
+use Rattle.calls.specs.declared.call.Call.TheVariants.{Open, Delegate, Yield, Merge, Assign, SetDay, Count, Issued, Today, LeaseAt, LeaseOf, Recall, Day, Standing, HandIn}
+use Rattle.calls.specs.Written.{name_of, numbers_of, numbered, written, Fit}
+use Rattle.calls.proofs.Words.{IsWord, Blanks, Stops, not_solid, first_word}
 
 digit_solid : (c : ℕ) → IsInRange 48 57 c → is_whitespace c ≡ false
 digit_solid c r = grind (arith, nat_tests, r)
@@ -100,6 +100,10 @@ name_word Issued = of_plain (codes "issued") (omega arith) refl
 name_word Today = of_plain (codes "today") (omega arith) refl
 name_word (LeaseAt p) = of_plain (codes "lease_at") (omega arith) refl
 name_word (LeaseOf n) = of_plain (codes "lease") (omega arith) refl
+name_word (Recall l) = of_plain (codes "recall") (omega arith) refl
+name_word (Day d) = of_plain (codes "day") (omega arith) refl
+name_word (Standing r h) = of_plain (codes "standing") (omega arith) refl
+name_word (HandIn l) = of_plain (codes "hand_in") (omega arith) refl
 
 -- the name comes off first
 pub name_off : (call : Call) (s t : SplitWhitespace) (x : Bor (List ℕ)) → split_whitespace_rest s ≡ written call → split_whitespace_steps s (Some x) t → (x.now ≡ name_of call) × (split_whitespace_rest t ≡ numbered (numbers_of call))
@@ -137,3 +141,7 @@ no_fourth Issued = refl
 no_fourth Today = refl
 no_fourth (LeaseAt p) = refl
 no_fourth (LeaseOf n) = refl
+no_fourth (Recall l) = refl
+no_fourth (Day d) = refl
+no_fourth (Standing r h) = refl
+no_fourth (HandIn l) = refl

@@ -1,5 +1,5 @@
 ghost use Rattle.std.specs.Prelude.{Some};
-ghost use Rattle.desk.specs.Written.{written};
+ghost use Rattle.calls.specs.Written.{written};
 
 use lending::Lease;
 use std::fmt;
@@ -18,6 +18,10 @@ pub enum Call {
     Today,
     LeaseAt { position: u16 },
     LeaseOf { number: u16 },
+    Recall { lease: u16 },
+    Day { day: u16 },
+    Standing { resource: u16, holder: u16 },
+    HandIn { lease: u16 },
 }
 
 // The call as it is written: its name and its numbers, with blanks between.
@@ -41,6 +45,10 @@ impl fmt::Display for Call {
             Call::Today => write!(f, "today"),
             Call::LeaseAt { position } => write!(f, "lease_at {position}"),
             Call::LeaseOf { number } => write!(f, "lease {number}"),
+            Call::Recall { lease } => write!(f, "recall {lease}"),
+            Call::Day { day } => write!(f, "day {day}"),
+            Call::Standing { resource, holder } => write!(f, "standing {resource} {holder}"),
+            Call::HandIn { lease } => write!(f, "hand_in {lease}"),
         }
     }
 }
@@ -51,4 +59,5 @@ pub enum Answer<S> {
     Done,
     Number(usize),
     Lease(Lease<S>),
+    Share(S),
 }

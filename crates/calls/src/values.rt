@@ -1,14 +1,18 @@
 ghost use Rattle.std.specs.Prelude.{◌≡◌, false, is_ok};
 ghost use Rattle.lending.specs.Perform.{Does};
 ghost use Rattle.lending.specs.Promise.{LendingConserved, CallConserves};
+ghost use Rattle.lending.specs.Told.{told_number};
 ghost use Rattle.office.specs.Lawful.{unused};
-ghost use Rattle.desk.specs.Values.{called, answered};
+ghost use Rattle.calls.specs.Values.{called, answered};
 
 use crate::call::{Answer, Call};
-use crate::calls::{assign, delegate, merge, open, set_day, yield_lease};
-use crate::questions::{count, issued, lease, lease_at, today};
+use desk::{
+    Slip, assign, count, delegate, issued, lease, lease_at, merge, open, recall, set_day, standing,
+    today, yield_lease,
+};
 use lending::Refusal;
 use office::Office;
+use shares::Share;
 
 // Makes a call that is given as a value.
 pub fn make<O: Office>(office: &mut O, call: Call) -> Result<Answer<O::Kind>, Refusal>
@@ -38,5 +42,19 @@ pub fn make<O: Office>(office: &mut O, call: Call) -> Result<Answer<O::Kind>, Re
         Call::Today => Ok(Answer::Number(usize::from(today(office)))),
         Call::LeaseAt { position } => lease_at(office, usize::from(position)).map(Answer::Lease),
         Call::LeaseOf { number } => lease(office, number).map(Answer::Lease),
+        Call::Recall { lease } => number_closed(recall(office, lease)),
+        Call::Day { day } => number_closed(desk::day(office, day)),
+        Call::Standing { resource, holder } => {
+            Ok(Answer::Share(standing(office, resource, holder)))
+        }
+        Call::HandIn { lease } => Ok(Answer::Number(Slip::draw(lease).hand_in(office))),
     }
+}
+
+// How many leases a call closed, as its answer.
+fn number_closed<S: Share>(closed: Result<usize, Refusal>) -> Result<Answer<S>, Refusal>
+    ensures told { answered result ≡ told_number closed }
+    ensures granted { is_ok result ≡ is_ok closed }
+{
+    closed.map(|leases| Answer::Number(leases))
 }

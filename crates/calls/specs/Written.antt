@@ -1,8 +1,8 @@
 -- How a call is written, by its name and its numbers, and what is read of that.
 use Rattle.std.specs.Prelude.{◌≡◌, ℕ, ◌<◌, ◌^◌, List, [], ◌∷◌, ◌++◌, Ok, Result, codes, flat_map, drop, All, Option, Some, None}
 use Rattle.std.specs.Fmt.{decimal}
-use Rattle.desk.specs.declared.call.Call.{Call}
-use Rattle.desk.specs.declared.call.Call.TheVariants.{Open, Delegate, Yield, Merge, Assign, SetDay, Count, Issued, Today, LeaseAt, LeaseOf}
+use Rattle.calls.specs.declared.call.Call.{Call}
+use Rattle.calls.specs.declared.call.Call.TheVariants.{Open, Delegate, Yield, Merge, Assign, SetDay, Count, Issued, Today, LeaseAt, LeaseOf, Recall, Day, Standing, HandIn}
 
 -- the name of a call
 abbrev pub name_of : Call → List ℕ
@@ -17,6 +17,10 @@ name_of Issued = codes "issued"
 name_of Today = codes "today"
 name_of (LeaseAt position) = codes "lease_at"
 name_of (LeaseOf n) = codes "lease"
+name_of (Recall l) = codes "recall"
+name_of (Day d) = codes "day"
+name_of (Standing resource holder) = codes "standing"
+name_of (HandIn l) = codes "hand_in"
 
 -- the numbers of a call
 abbrev pub numbers_of : Call → List ℕ
@@ -31,6 +35,10 @@ numbers_of Issued = []
 numbers_of Today = []
 numbers_of (LeaseAt position) = position ∷ []
 numbers_of (LeaseOf n) = n ∷ []
+numbers_of (Recall l) = l ∷ []
+numbers_of (Day d) = d ∷ []
+numbers_of (Standing resource holder) = resource ∷ holder ∷ []
+numbers_of (HandIn l) = l ∷ []
 
 -- numbers in decimal, each after a blank
 abbrev pub numbered : List ℕ → List ℕ

@@ -1,0 +1,3 @@
+pub mod Pieces
+pub mod Words
+pub mod Making

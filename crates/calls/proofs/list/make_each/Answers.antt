@@ -1,0 +1,34 @@
+use Rattle.std.proofs.Common.{arith, refl, get_or, ◌∙◌}
+use Rattle.std.proofs.lemmas.List.{take_more}
+use Rattle.calls.specs.declared.call.Call.TheVariants.{Open}
+use Rattle.calls.specs.Values.{answered}
+use Rattle.calls.proofs.Making.{none_made, one_more, few_closed}
+use Rattle.calls.proofs.list.make_each.Goals as goal
+
+pub loop-call-init : goal.loop-call-init
+loop-call-init g c = record {
+  made = none_made g.O.Kind.Share.kind c.lending_is_conserved.ensures.always (g.O.Office.meaning c.args.office.now) c.default-tallies.result (omega arith);
+  unused = refl;
+}
+
+pub count-requires : goal.count-requires
+count-requires g c =
+    let K = g.O.Kind.Share.kind in
+    let s = g.O.Office.meaning c.args.office.now in
+    let u = g.O.Office.meaning c.make-answer.new.office in
+    let call = get_or c.args.calls.now c.loop-call.call-index (Open 0 0) in
+    let made = one_more K c.make-answer.ensures.always s (g.O.Office.meaning c.loop-call.office) u _ call (answered c.make-answer.result) c.loop-call.tallies c.loop-call.invariant.made c.make-answer.ensures.does in
+    let few = few_closed K s u _ _ (g.O.Office.lawful c.args.office.now) (g.O.Office.lawful c.make-answer.new.office) _ _ made in
+    omega arith
+
+pub loop-call-preserved : goal.loop-call-preserved
+loop-call-preserved g c =
+    let K = g.O.Kind.Share.kind in
+    let s = g.O.Office.meaning c.args.office.now in
+    let u = g.O.Office.meaning c.make-answer.new.office in
+    let call = get_or c.args.calls.now c.loop-call.call-index (Open 0 0) in
+    let made = one_more K c.make-answer.ensures.always s (g.O.Office.meaning c.loop-call.office) u _ call (answered c.make-answer.result) c.loop-call.tallies c.loop-call.invariant.made c.make-answer.ensures.does in
+    record {
+      made = rw (take_more c.args.calls.now c.loop-call.call-index (Open 0 0) c.loop-call-test.true, c.count.ensures) made;
+      unused = c.make-answer.ensures.unused ∙ c.loop-call.invariant.unused;
+    }

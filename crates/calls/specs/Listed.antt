@@ -1,0 +1,43 @@
+-- What a list of calls that are made in turn comes to, and what it closes.
+use Rattle.std.specs.Prelude.{◌≡◌, ℕ, ◌+◌, List, ◌++◌, map, reverse}
+use Rattle.shares.specs.Kind.{Kind}
+use Rattle.lending.specs.Office.{State, SetUp}
+use Rattle.lending.specs.Outcome as office
+use Rattle.lending.specs.History.{Moment, Leads, tally, none, one_if_done, its_number, closing, yielded, merged, recalled, lapsed}
+use Rattle.lending.specs.Promise.{Conserved}
+use Rattle.calls.specs.declared.call.Call.{Call}
+use Rattle.calls.specs.declared.list.Tallies.{Tallies}
+use Rattle.calls.specs.Values.{called}
+
+-- how many leases were closed in all
+abbrev pub all_closed : Tallies → ℕ
+all_closed tallies = tallies.yielded + tallies.merged + tallies.recalled + tallies.lapsed
+
+module _ {S : Type 0} where
+  -- the tallies with what one call more closed by its answer
+  abbrev pub counted : Tallies → office.Call → office.Answer S → Tallies
+  counted tallies c a =
+      record {
+        yielded = tallies.yielded + tally one_if_done none none none (closing c) a;
+        merged = tallies.merged + tally none one_if_done none none (closing c) a;
+        recalled = tallies.recalled + tally none none its_number none (closing c) a;
+        lapsed = tallies.lapsed + tally none none none its_number (closing c) a;
+      }
+
+  -- The calls, made in their order, led from s to t and closed what the tallies say.
+  pub record Made (K : Kind S) (s : State S) (calls : List Call) (tallies : Tallies) (t : State S) : Type 0 where
+    -- each call with the state that it came to and its answer, the last one first
+    pub history : List (Moment S)
+    pub in_order : map (λ m. m.call) history ≡ reverse (map called calls)
+    pub leads : Leads K s history t
+    -- granted yields and granted merges, without the yields inside recall, day and hand-in
+    pub yields : tallies.yielded ≡ yielded history
+    pub merges : tallies.merged ≡ merged history
+    -- what recalls and hand-ins closed
+    pub recalls : tallies.recalled ≡ recalled history
+    -- what days closed
+    pub lapses : tallies.lapsed ≡ lapsed history
+    -- The lending promise, whole: of these calls to an office that was set up empty,
+    pub from_empty : SetUp s → Conserved K history t
+    -- and of every list of calls to such an office that these calls follow.
+    pub conserved : (start : State S) → SetUp start → (earlier : List (Moment S)) → Leads K start earlier s → Conserved K (history ++ earlier) t
