@@ -1,5 +1,5 @@
 -- What yields from the last of some numbers to the first come to, where they are those of a family or those that fall due.
-use Rattle.std.proofs.Common.{◌≡◌, ℕ, Bool, true, false, cond, not, List, [], ◌∷◌, map, length, reverse, Ok, Err, Result, sym, refl, ap, ◌∙◌, subst, arith}
+use Rattle.std.proofs.Common.{◌≡◌, ℕ, Bool, true, false, cond, not, List, map, length, reverse, Ok, Err, Result, sym, refl, ap, ◌∙◌, subst, arith}
 use Rattle.std.specs.List.{filter}
 use Rattle.std.specs.Result.{result_unwrap_or}
 use Rattle.std.proofs.lemmas.List.{length-reverse}
@@ -15,7 +15,7 @@ use Rattle.lending.specs.Outcome.Outcome.{refuses, tells, grants}
 use Rattle.lending.specs.Roll.{live, family}
 use Rattle.lending.specs.Calls.{bad_day, due_by}
 use Rattle.lending.specs.Above.{yields, downward, recall_all}
-use Rattle.lending.specs.Perform.{perform, Ends, Does}
+use Rattle.lending.specs.Perform.{Ends, Does}
 use Rattle.lending.specs.Told.{told_number}
 use Rattle.lending.proofs.Going.{recall_granted, recall_ends, day_ends}
 use Rattle.office.specs.Lawful.{Lawful}
@@ -25,7 +25,7 @@ module _ {S : Type 0} (K : Kind S) (s : State S) (rows : List (Lease S)) (law : 
   recalled n alive items ns e f t h k len =
       let down : reverse ns ≡ downward (family s.core.roll n) = ap reverse (f ∙ e) in
       subst (λ (o : Outcome S). Ends o s (number k) t) (sym (cond-false (not (live s.core.roll n)) (refuses (record { number = 6; level = 0 })) (recall_all K s n) (ap not alive)))
-          (recall_ends K s law.orderly n alive t k (len ∙ ap length e ∙ sym (length-reverse (map (λ l. l.number) (family s.core.roll n)))) (λ u y. h u (ap (yields K s) down ∙ y)))
+      (recall_ends K s law.orderly n alive t k (len ∙ ap length e ∙ sym (length-reverse (map (λ l. l.number) (family s.core.roll n)))) (λ u y. h u (ap (yields K s) down ∙ y)))
 
   pub day_came : (d : ℕ) → bad_day s d ≡ false → (items ns : List ℕ) → items ≡ map (λ l. l.number) (filter (due_by d) s.core.roll) → ns ≡ items → (t : State S) → ((u : State S) → yields K s (reverse ns) ≡ grants done u → t.core ≡ u.core) → (a : Answer S) (v : State S) → Does K t (new_day d) a v → (k : ℕ) → k ≡ length items → Does K s (day d) (number k) v
   day_came d good items ns e f t h a v does k len =

@@ -1,5 +1,5 @@
 -- A holder's shares joined as they come.
-use Rattle.std.proofs.Common.{◌≡◌, ℕ, Bool, true, false, cond, ◌&&◌, eqb, List, [], ◌∷◌, map, Some, Option, sym, refl, ap, ◌∙◌, ap₂}
+use Rattle.std.proofs.Common.{◌≡◌, ℕ, Bool, true, false, cond, ◌&&◌, eqb, List, [], ◌∷◌, map, Some, Option, sym, ap, ◌∙◌, ap₂}
 use Rattle.std.specs.List.{filter}
 use Rattle.std.proofs.lemmas.Bool.{eq-eqb, false≢true}
 use Rattle.shares.specs.Joins.{together}
@@ -7,7 +7,7 @@ use Rattle.lending.specs.declared.lease.Lease.{Lease}
 use Rattle.shares.specs.Kind.{Kind, Laws}
 use Rattle.lending.specs.Roll.{shares_of}
 use Rattle.lending.specs.Above.{standing_of}
-use Rattle.shares.proofs.Sums.{plus?, plus_join, plus_none, plus_assoc, plus_nothing, nothing_plus, together_plus}
+use Rattle.shares.proofs.Sums.{plus?, plus_join, plus_assoc, plus_nothing, nothing_plus, together_plus}
 
 module _ {S : Type 0} (K : Kind S) (L : Laws K) (resource holder : ℕ) where
   -- so much has been joined, and these leases are to come

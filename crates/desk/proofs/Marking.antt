@@ -1,5 +1,5 @@
 -- Which leases a pass over the roll marks.
-use Rattle.std.proofs.Common.{◌≡◌, ℕ, zero, suc, ◌+◌, ◌<◌, ◌≤◌, Bool, true, false, cond, ◌||◌, eqb, ◌⊎◌, List, [], ◌∷◌, ◌++◌, map, length, get_or, Some, None, Option, Result, Ok, Err, is_ok, is_some, sym, refl, ap, ◌∙◌, subst, inl, inr, ⊎_elim, arith, le_of_suc-le-suc}
+use Rattle.std.proofs.Common.{◌≡◌, ℕ, zero, suc, ◌<◌, ◌≤◌, Bool, true, false, cond, ◌||◌, eqb, List, [], ◌∷◌, ◌++◌, map, length, get_or, Some, None, Option, Result, Ok, Err, is_ok, is_some, sym, refl, ap, ◌∙◌, subst, ⊎_elim, arith, le_of_suc-le-suc}
 use Rattle.std.specs.List.{filter, list_any}
 use Rattle.std.specs.List.Sorted.{IsBinarySearchResult, IsNonDecreasing}
 use Rattle.std.specs.Ordering.{nat_cmp}
@@ -14,11 +14,11 @@ use Rattle.lending.specs.declared.lease.Lease.{Lease}
 use Rattle.shares.specs.Kind.{Kind}
 use Rattle.lending.specs.Office.{State}
 use Rattle.lending.specs.Orderly.{Orderly}
-use Rattle.lending.specs.Roll.{find, live, under, lenders, lender_then, family}
+use Rattle.lending.specs.Roll.{find, live, under, lenders, lender_then}
 use Rattle.lending.proofs.Rolls.{Rising, rising_keep, rising_above, find_in, some_is_true, some_is_none, mem_map, map_mem, mem_keep, keep_mem}
 use Rattle.lending.proofs.Going.{Order, orderly_sweeps, numbered}
 use Rattle.lending.proofs.Order.{orderly_rises}
-use Rattle.lending.proofs.Sweeping.{Sweeps, inside, step}
+use Rattle.lending.proofs.Sweeping.{inside, step}
 
 -- a number is found by a binary search exactly if it is there
 module _ (x : ℕ) where

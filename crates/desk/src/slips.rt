@@ -20,7 +20,7 @@ impl Drop for Slip {
     fn drop(self)
         requires handed_in { ⊥ }
     {
-        let Slip { lease: _ } = self;
+        let Self { lease: _ } = self;
     }
 }
 
@@ -41,7 +41,7 @@ impl Slip {
         ensures always { LendingConserved O.Kind.Share.kind }
     {
         lending_is_conserved::<O::Kind>();
-        let Slip { lease } = self;
+        let Self { lease } = self;
         recall_if_live(office, lease)
     }
 }

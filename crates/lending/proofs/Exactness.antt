@@ -1,19 +1,18 @@
 -- What the calls' definitions rest on holds in every state that calls reach; and a pile's own states are so reached.
-use Rattle.std.proofs.Common.{◌≡◌, ℕ, zero, suc, ◌+◌, ◌<◌, ◌≤◌, Bool, true, false, cond, not, ◌&&◌, ◌||◌, eqb, ltb, ◌⊎◌, List, [], ◌∷◌, length, Some, None, Option, sym, refl, ap, ◌∙◌, ap₂, inl, inr, ⊎_elim, arith}
+use Rattle.std.proofs.Common.{◌≡◌, ℕ, zero, suc, ◌<◌, ◌≤◌, Bool, true, false, cond, not, ◌&&◌, ◌||◌, eqb, ◌⊎◌, List, [], ◌∷◌, length, Some, None, Option, sym, refl, ap, ◌∙◌, ap₂, inl, inr, ⊎_elim, arith}
 use Rattle.std.specs.List.{filter, list_any}
 use mathlib.Core.List.{Memᴰ}
-use Rattle.std.proofs.lemmas.Bool.{eqb-true, eqb-false, eq-eqb, ne_eqb, cases_Bool, cond-true, cond-false, or_cases, or_parts, or_left, or_right, cases_lt, not-false, leb-true, and_from}
+use Rattle.std.proofs.lemmas.Bool.{eqb-true, eqb-false, eq-eqb, ne_eqb, cases_Bool, cond-true, cond-false, or_cases, or_parts, or_left, or_right, cases_lt, not-false, and_from}
 use Rattle.lending.specs.declared.lease.Lease.{Lease}
 use Rattle.shares.specs.Kind.{Kind, Laws}
 use Rattle.lending.specs.Office.{State, with_today}
-use Rattle.lending.specs.Outcome.{Outcome, answering, and_then, unless}
 use Rattle.lending.specs.Roll.{find, lends, lenders, lender_then, under, plus}
-use Rattle.lending.specs.Calls.{unlike, bad_day, due_by, do_set_day}
+use Rattle.lending.specs.Calls.{unlike, bad_day, due_by}
 use Rattle.lending.specs.Above.{downward}
 use Rattle.lending.specs.Perform.{perform}
 use Rattle.lending.specs.Outcome.Call.{day}
-use Rattle.lending.specs.Outcome.Answer.{done, number}
-use Rattle.lending.specs.Outcome.Outcome.{refuses, grants}
+use Rattle.lending.specs.Outcome.Answer.{number}
+use Rattle.lending.specs.Outcome.Outcome.{grants}
 use Rattle.lending.specs.History.{lent}
 use Rattle.lending.specs.Exact.{Exact, CallsExact, Under}
 use Rattle.lending.specs.Exact.Under.{direct, through}

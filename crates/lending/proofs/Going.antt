@@ -1,28 +1,25 @@
 -- Code that yields one lease after another goes where the definitions go, whatever the office's objections come to be.
-use Rattle.std.proofs.Common.{◌≡◌, ℕ, ◌<◌, ◌≤◌, Bool, true, false, cond, not, List, [], ◌∷◌, map, length, Some, None, Option, is_some, sym, refl, ap, ◌∙◌, subst, arith}
-use Rattle.std.specs.List.{filter, list_any}
+use Rattle.std.proofs.Common.{◌≡◌, ℕ, ◌<◌, Bool, true, false, List, [], ◌∷◌, length, Some, None, Option, is_some, sym, refl, ap, ◌∙◌, subst, arith}
+use Rattle.std.specs.List.{filter}
 use mathlib.Core.Logic.{∥∥₁_elim}
-use mathlib.Core.List.Memᴰ
-use mathlib.Core.List.{Memᴰ}
 use native.Mathlib.Bridge.{le_prop}
-use Rattle.std.proofs.lemmas.Bool.{cond-true, cond-false}
 use Rattle.lending.specs.declared.lease.Lease.{Lease}
 use Rattle.shares.specs.Kind.{Kind}
 use Rattle.lending.specs.Office.{Refusal, Request, Core, State, with_today}
 use Rattle.lending.specs.Orderly.{Orderly}
-use Rattle.lending.specs.Roll.{find, live, close, lends, family, plus}
+use Rattle.lending.specs.Roll.{find, live, close, lends, family}
 use Rattle.lending.specs.Outcome.{Answer, Outcome, unless, need_live, and_then, answering}
 use Rattle.lending.specs.Outcome.Answer.{done, number}
 use Rattle.lending.specs.Outcome.Call.{yield, new_day, day}
 use Rattle.lending.specs.Outcome.Outcome.{refuses, tells, grants}
-use Rattle.lending.specs.Calls.{do_yield, do_set_day, given_back, bad_day, due_by}
+use Rattle.lending.specs.Calls.{do_yield, given_back, bad_day, due_by}
 use Rattle.lending.specs.Above.{yields, downward, recall_all}
-use Rattle.lending.specs.Perform.{perform, Ends, Does}
+use Rattle.lending.specs.Perform.{Ends, Does}
 use Rattle.lending.proofs.Rolls.{find_in, rising_above}
 use Rattle.lending.proofs.Families.{Low}
-use Rattle.lending.proofs.Order.{orderly_rises, orderly_change, orderly_close, share_stays, Stays}
+use Rattle.lending.proofs.Order.{orderly_rises, orderly_change, orderly_close, Stays}
 use Rattle.lending.proofs.Yielding.{give}
-use Rattle.lending.proofs.Sweeping.{Sweeps, Granted, family_granted, due_granted, day_set, day_performs}
+use Rattle.lending.proofs.Sweeping.{Sweeps, family_granted, due_granted, day_set, day_performs}
 
 module _ {S : Type 0} where
   -- an orderly roll has what yields need
@@ -100,4 +97,4 @@ module _ {S : Type 0} (K : Kind S) where
         let at : t.core ≡ g.after.core = h g.after g.is in
         let ends : Ends (grants done (with_today d t)) t a v = subst (λ (w : Outcome S). Ends w t a v) (day_set K Order (orderly_sweeps K) s o d t at good) does in
         subst (λ (p : Outcome S). Ends p s (number k) v) (sym (day_performs K Order (orderly_sweeps K) s o d good))
-          (ap number len, ends.1 ∙ ap (λ (c : Core S). (with_today d (record { core = c; objections = s.objections })).core) at)
+        (ap number len, ends.1 ∙ ap (λ (c : Core S). (with_today d (record { core = c; objections = s.objections })).core) at)

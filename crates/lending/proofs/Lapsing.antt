@@ -1,27 +1,22 @@
 -- What lenders get back by a day.
-use Rattle.std.proofs.Common.{◌≡◌, ℕ, ◌<◌, ◌≤◌, Bool, true, false, cond, not, ◌&&◌, ◌||◌, eqb, ◌⊎◌, List, [], ◌∷◌, map, Some, None, Option, unwrap_or, sym, refl, ap, ◌∙◌, subst, ap₂, inl, inr, ⊎_elim, arith}
-use Rattle.std.specs.List.{filter, list_any}
-use mathlib.Core.List.Memᴰ
+use Rattle.std.proofs.Common.{◌≡◌, ℕ, Bool, true, false, cond, not, ◌&&◌, eqb, List, [], ◌∷◌, map, Some, Option, sym, refl, ap, ◌∙◌, subst, arith}
+use Rattle.std.specs.List.{filter}
 use mathlib.Core.List.{Memᴰ}
-use Rattle.std.proofs.lemmas.Bool.{eqb-true, eqb-false, eq-eqb, ne_eqb, cases_eq, cases_lt, cond-true, cond-false, or_cases, leb-true, leb-false, false≢true}
+use Rattle.std.proofs.lemmas.Bool.{leb-true, leb-false}
 use Rattle.lending.specs.declared.lease.Lease.{Lease}
 use Rattle.shares.specs.Kind.{Kind, Laws, then}
 use Rattle.lending.specs.Office.{Core, State, with_roll, with_today}
-use Rattle.lending.specs.Roll.{find, under, change, close, family, with_share, plus}
+use Rattle.lending.specs.Roll.{with_share}
 use Rattle.lending.specs.Above.{downward}
 use Rattle.lending.specs.Calls.{due_by}
 use Rattle.lending.specs.History.{Moment, lent}
-use Rattle.lending.specs.Effects.{TakenBack, DayCame, gaining, without_family, lent_together, due_from}
-use Rattle.shares.proofs.Sums.{plus?, nothing, plus_join, plus_assoc, plus_nothing, nothing_plus, plus_comm}
+use Rattle.lending.specs.Effects.{DayCame, lent_together, due_from}
+use Rattle.shares.proofs.Sums.{plus?, nothing, plus_join, plus_comm}
 use Rattle.lending.proofs.Joins.{part_defined, plus_then}
-use Rattle.lending.proofs.Totals.{total, where_is, total_ext, total_plus, total_map, total_nothing, total_filter}
-use Rattle.lending.proofs.Rolls.{rising_above, one_number, some_is_true, some_is_none, some_is_found, mem_close, split_close, find_in, in_find, mem_keep, mem_map, Changed, mem_change, change_mem_same}
-use Rattle.lending.proofs.Rolls.Changed.{changed, unchanged}
-use Rattle.lending.proofs.Invariant.{Inv, lent_from}
-use Rattle.lending.proofs.Families.{inv_low}
-use Rattle.lending.proofs.Yielding.{give, inv_yield, plus_is}
-use Rattle.lending.proofs.Sweeping.{Sweeps, Granted, among, is_among, not_among, without, without_is, filter_ext, mem_without, without_mem, bare, bare_change, from, stays, gone, family_granted, due_granted, of_due, none_due, inside, step, below_out, of_family, in_family_numbers, in_due}
-
+use Rattle.lending.proofs.Totals.{total, where_is, total_ext, total_filter}
+use Rattle.lending.proofs.Rolls.{one_number}
+use Rattle.lending.proofs.Invariant.{Inv}
+use Rattle.lending.proofs.Sweeping.{Sweeps, Granted, among, is_among, not_among, without_is, filter_ext, due_granted, of_due, none_due, in_due}
 use Rattle.lending.proofs.Returning.{inv_sweeps, closed_from, joined}
 
 module _ {S : Type 0} (K : Kind S) (L : Laws K) (ms : List (Moment S)) where
@@ -69,4 +64,4 @@ module _ {S : Type 0} (K : Kind S) (L : Laws K) (ms : List (Moment S)) where
         due_total : (n : ℕ) → lent_together K ms (due_from s.core.roll d n) ≡ closed_from K L (lent K ms) s I lapsing lapsed n
         due_total n = together_total (due_from s.core.roll d n) ∙ total_filter K L (λ z. lent K ms z.number) (λ z. due_by d z && eqb z.lender n) s.core.roll
             ∙ total_ext K (where_is K (λ z. due_by d z && eqb z.lender n) (λ z. lent K ms z.number)) (where_is K (λ z. among lapsing z.number && eqb z.lender n) (λ z. lent K ms z.number)) s.core.roll
-                (λ z m. ap (λ (b : Bool). cond (b && eqb z.lender n) (lent K ms z.number) (nothing K)) (sym (among_due z m)))
+            (λ z m. ap (λ (b : Bool). cond (b && eqb z.lender n) (lent K ms z.number) (nothing K)) (sym (among_due z m)))

@@ -1,26 +1,22 @@
 -- What lenders get back by a recall and by a day.
-use Rattle.std.proofs.Common.{◌≡◌, ℕ, ◌<◌, ◌≤◌, Bool, true, false, cond, not, ◌&&◌, ◌||◌, eqb, ◌⊎◌, List, [], ◌∷◌, map, Some, None, Option, unwrap_or, sym, refl, ap, ◌∙◌, subst, ap₂, inl, inr, ⊎_elim, arith}
-use Rattle.std.specs.List.{filter, list_any}
-use mathlib.Core.List.Memᴰ
+use Rattle.std.proofs.Common.{◌≡◌, ℕ, ◌<◌, Bool, true, false, cond, not, ◌&&◌, ◌||◌, eqb, ◌⊎◌, List, [], ◌∷◌, map, Some, None, Option, sym, refl, ap, ◌∙◌, subst, ap₂, inl, inr, ⊎_elim, arith}
+use Rattle.std.specs.List.{filter}
 use mathlib.Core.List.{Memᴰ}
-use Rattle.std.proofs.lemmas.Bool.{eqb-true, eqb-false, eq-eqb, ne_eqb, cases_eq, cases_lt, cond-true, cond-false, or_cases, leb-true, leb-false, false≢true}
+use Rattle.std.proofs.lemmas.Bool.{eqb-true, eq-eqb, ne_eqb, cases_eq, cond-true, cond-false, or_cases, false≢true}
 use Rattle.lending.specs.declared.lease.Lease.{Lease}
-use Rattle.shares.specs.Kind.{Kind, Laws, then}
-use Rattle.lending.specs.Office.{Core, State, with_roll, with_today}
-use Rattle.lending.specs.Roll.{find, under, change, close, family, with_share, plus}
+use Rattle.shares.specs.Kind.{Kind, Laws}
+use Rattle.lending.specs.Office.{Core, State, with_roll}
+use Rattle.lending.specs.Roll.{find, under, change, close, family, with_share}
 use Rattle.lending.specs.Above.{downward}
-use Rattle.lending.specs.Calls.{due_by}
-use Rattle.lending.specs.History.{Moment, lent}
-use Rattle.lending.specs.Effects.{TakenBack, DayCame, gaining, without_family, lent_together, due_from}
-use Rattle.shares.proofs.Sums.{plus?, nothing, plus_join, plus_assoc, plus_nothing, nothing_plus, plus_comm}
-use Rattle.lending.proofs.Joins.{part_defined, plus_then}
+use Rattle.lending.specs.Effects.{TakenBack, gaining, without_family}
+use Rattle.shares.proofs.Sums.{plus?, nothing, plus_join, plus_assoc, plus_nothing, nothing_plus}
 use Rattle.lending.proofs.Totals.{total, where_is, total_ext, total_plus, total_map, total_nothing, total_filter}
-use Rattle.lending.proofs.Rolls.{rising_above, one_number, some_is_true, some_is_none, some_is_found, mem_close, split_close, find_in, in_find, mem_keep, mem_map, Changed, mem_change, change_mem_same}
+use Rattle.lending.proofs.Rolls.{rising_above, one_number, mem_close, split_close, in_find, Changed, mem_change, change_mem_same}
 use Rattle.lending.proofs.Rolls.Changed.{changed, unchanged}
 use Rattle.lending.proofs.Invariant.{Inv, lent_from}
 use Rattle.lending.proofs.Families.{inv_low}
-use Rattle.lending.proofs.Yielding.{give, inv_yield, plus_is}
-use Rattle.lending.proofs.Sweeping.{Sweeps, Granted, among, is_among, not_among, without, without_is, filter_ext, mem_without, without_mem, bare, bare_change, from, stays, gone, family_granted, due_granted, of_due, inside, step, below_out, of_family, in_family_numbers, in_due}
+use Rattle.lending.proofs.Yielding.{inv_yield, plus_is}
+use Rattle.lending.proofs.Sweeping.{Sweeps, Granted, among, is_among, not_among, without, without_is, filter_ext, mem_without, without_mem, bare, bare_change, family_granted, inside, step, below_out, of_family, in_family_numbers}
 
 module _ {S : Type 0} (K : Kind S) (L : Laws K) (lt : ℕ → Option S) where
   -- the invariant has what yields need
@@ -82,9 +78,9 @@ module _ {S : Type 0} (K : Kind S) (L : Laws K) (lt : ℕ → Option S) where
     joined l m ml mm e =
         let d = I.defined l ml in
         let before : plus? K (plus? K (Some l.share) (closed_from l.number)) (left_from l.number) ≡ Some d.0 =
-            plus_assoc K L (Some l.share) (closed_from l.number) (left_from l.number) ∙ ap (plus? K (Some l.share)) (sym (split l.number)) ∙ I.balance l ml ∙ d.1 in
+        plus_assoc K L (Some l.share) (closed_from l.number) (left_from l.number) ∙ ap (plus? K (Some l.share)) (sym (split l.number)) ∙ I.balance l ml ∙ d.1 in
         let later : plus? K (Some m.share) (left_from l.number) ≡ Some d.0 =
-            ap (plus? K (Some m.share)) (sym (after_from l.number)) ∙ ap (λ (n : ℕ). plus? K (Some m.share) (total K (lent_from K lt n) g.after.core.roll)) (sym e) ∙ g.has.balance m mm ∙ ap lt e ∙ d.1 in
+        ap (plus? K (Some m.share)) (sym (after_from l.number)) ∙ ap (λ (n : ℕ). plus? K (Some m.share) (total K (lent_from K lt n) g.after.core.roll)) (sym e) ∙ g.has.balance m mm ∙ ap lt e ∙ d.1 in
         cancel (plus? K (Some l.share) (closed_from l.number)) (Some m.share) (left_from l.number) d.0 before later
 
   -- two rolls that differ in no share are one
@@ -97,8 +93,8 @@ module _ {S : Type 0} (K : Kind S) (L : Laws K) (lt : ℕ → Option S) where
       let q : map (bare K) xs ≡ map (bare K) ys = cc in
       let v : a.share ≡ b.share = h a b (Memᴰ.head refl) (Memᴰ.head refl) (ap (λ (l : Lease S). l.number) p) in
       ap₂ (λ (l : Lease S) (r : List (Lease S)). l ∷ r)
-        (ap₂ (λ (x : S) (l : Lease S). with_share x l) v p)
-        (same_roll xs ys q (λ x y mx my. h x y (Memᴰ.tail mx) (Memᴰ.tail my)))
+      (ap₂ (λ (x : S) (l : Lease S). with_share x l) v p)
+      (same_roll xs ys q (λ x y mx my. h x y (Memᴰ.tail mx) (Memᴰ.tail my)))
 
   -- a recall of lease l, which was lent x
   module _ (s : State S) (I : Inv K s.core.roll s.core.issued lt) (l : Lease S) (ml : Memᴰ l s.core.roll) where
@@ -140,10 +136,10 @@ module _ {S : Type 0} (K : Kind S) (L : Laws K) (lt : ℕ → Option S) where
     from_lender : closed_from s I ns recalled l.lender ≡ lt l.number
     from_lender =
         total_ext K (where_is K (λ z. among ns z.number && eqb z.lender l.lender) (λ z. lt z.number)) (where_is K (λ z. eqb z.number l.number) (λ z. lt z.number)) s.core.roll
-            (λ z m. ap (λ (b : Bool). cond b (lt z.number) (nothing K)) (go z m (cases_eq z.number l.number)))
+        (λ z m. ap (λ (b : Bool). cond b (lt z.number) (nothing K)) (go z m (cases_eq z.number l.number)))
         ∙ split_close K L (where_is K (λ z. eqb z.number l.number) (λ z. lt z.number)) 0 s.core.roll I.rising l ml
         ∙ ap₂ (plus? K) (cond-true (eqb l.number l.number) (lt l.number) (nothing K) (eq-eqb l.number l.number refl))
-            (total_nothing K L (where_is K (λ z. eqb z.number l.number) (λ z. lt z.number)) (close l.number s.core.roll) (λ z k. cond-false (eqb z.number l.number) (lt z.number) (nothing K) (ne_eqb z.number l.number (mem_close s.core.roll l.number z k).1)))
+        (total_nothing K L (where_is K (λ z. eqb z.number l.number) (λ z. lt z.number)) (close l.number s.core.roll) (λ z k. cond-false (eqb z.number l.number) (lt z.number) (nothing K) (ne_eqb z.number l.number (mem_close s.core.roll l.number z k).1)))
         ∙ plus_nothing K L (lt l.number)
       where
         go : (z : Lease S) → Memᴰ z s.core.roll → (z.number ≡ l.number) ⊎ (z.number ≡ l.number → ⊥) → (among ns z.number && eqb z.lender l.lender) ≡ eqb z.number l.number

@@ -1,14 +1,14 @@
 -- Yields from the highest number down, of leases with all that are under them: each is granted, and what they leave.
-use Rattle.std.proofs.Common.{◌≡◌, ℕ, ◌+◌, ◌<◌, ◌≤◌, Bool, true, false, cond, not, ◌||◌, eqb, ◌⊎◌, nat_lt, List, [], ◌∷◌, map, length, Some, Option, sym, refl, ap, ◌∙◌, subst, ap₂, inl, inr, ⊎_elim, arith}
+use Rattle.std.proofs.Common.{◌≡◌, ℕ, ◌<◌, ◌≤◌, Bool, true, false, cond, not, ◌||◌, eqb, ◌⊎◌, nat_lt, List, [], ◌∷◌, map, length, Option, sym, refl, ap, ◌∙◌, subst, ap₂, inl, inr, ⊎_elim, arith}
 use Rattle.std.specs.List.{filter, list_any}
 use mathlib.Core.List.Memᴰ
 use mathlib.Core.List.{reverse_aux, Memᴰ}
-use Rattle.std.proofs.lemmas.Bool.{eqb-true, eq-eqb, ne_eqb, cond-false, or_right, or_cases, cases_eq, cases_lt, leb-true, le-leb, false≢true}
+use Rattle.std.proofs.lemmas.Bool.{eqb-true, eq-eqb, ne_eqb, cond-false, or_right, cases_eq, cases_lt, leb-true, le-leb, false≢true}
 use Rattle.lending.specs.declared.lease.Lease.{Lease}
 use Rattle.shares.specs.Kind.{Kind}
 use Rattle.lending.specs.Office.{Core, State, with_roll, with_today}
 use Rattle.lending.specs.Outcome.{Outcome, unless, need_live, and_then, answering}
-use Rattle.lending.specs.Roll.{find, change, close, lends, family, under, with_share}
+use Rattle.lending.specs.Roll.{find, change, close, lends, family, with_share}
 use Rattle.lending.specs.Above.{yields, downward}
 use Rattle.lending.specs.Calls.{do_yield, do_set_day, given_back, due_by, bad_day}
 use Rattle.lending.specs.Limits.{last_day}
@@ -17,7 +17,7 @@ use Rattle.lending.specs.Outcome.Call.{day}
 use Rattle.lending.specs.Outcome.Answer.{done, number}
 use Rattle.lending.specs.Effects.{gaining}
 use Rattle.lending.specs.Outcome.Outcome.{refuses, grants}
-use Rattle.lending.proofs.Rolls.{Rising, rising_above, in_find, find_in, absent_found, some_is_true, some_is_none, some_is_found, mem_map, map_mem, mem_keep, keep_mem, rising_keep, mem_close, close_mem}
+use Rattle.lending.proofs.Rolls.{Rising, rising_above, in_find, absent_found, some_is_true, some_is_none, some_is_found, mem_map, map_mem, mem_keep, keep_mem, rising_keep, mem_close, close_mem}
 use Rattle.lending.proofs.Families.{Low, NoZero, in_family, family_step, above_lower}
 use Rattle.lending.proofs.Yielding.{give}
 use Rattle.lending.proofs.Numbers.{Has}
@@ -313,7 +313,7 @@ module _ {S : Type 0} (K : Kind S) (P : List (Lease S) → ℕ → Type 0) (W : 
         let today : v.core.today ≡ s.core.today = ap (λ (k : Core S). k.today) (at ∙ due_granted.core) in
         cond-false (bad_day v d) (refuses (record { number = 13; level = v.core.depth })) (unless v.core.depth ((list_any (due_by d) v.core.roll, 14) ∷ []) (grants done (with_today d v))) (ap (λ (k : ℕ). nat_lt d k || nat_lt last_day d) today ∙ good)
         ∙ cond-false (list_any (due_by d) v.core.roll) (refuses (record { number = 14; level = v.core.depth })) (grants done (with_today d v))
-            (some_is_none (due_by d) v.core.roll (λ x m e. let a = leb-true x.due d e in let b = none_due x (subst (λ (k : Core S). Memᴰ x k.roll) at m) in omega arith))
+        (some_is_none (due_by d) v.core.roll (λ x m e. let a = leb-true x.due d e in let b = none_due x (subst (λ (k : Core S). Memᴰ x k.roll) at m) in omega arith))
 
     pub day_performs : bad_day s d ≡ false → perform K s (day d) ≡ grants (number (length (downward (filter (due_by d) s.core.roll)))) (with_today d due_granted.after)
     day_performs good =

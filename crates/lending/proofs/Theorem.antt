@@ -7,7 +7,7 @@ use Rattle.lending.specs.declared.lease.Lease.{Lease}
 use Rattle.shares.specs.Kind.{Kind, Laws}
 use Rattle.lending.specs.Office.{Core, State, SetUp, with_today}
 use Rattle.lending.specs.Outcome.{Call, Answer, Outcome, answering, and_then}
-use Rattle.lending.specs.Roll.{find, live, family}
+use Rattle.lending.specs.Roll.{live, family}
 use Rattle.lending.specs.Perform.{perform, Ends, Does}
 use Rattle.lending.specs.Above.{yields, recall_all, downward, standing_of}
 use Rattle.lending.specs.Calls.{bad_day, due_by, do_set_day}
@@ -17,7 +17,7 @@ use Rattle.lending.specs.Outcome.Outcome.{refuses, tells, grants}
 use Rattle.lending.specs.History.{Moment, Leads, lent, yielded, merged, recalled as recalled_in, lapsed, closings, closed_between}
 use Rattle.lending.specs.Effects.{TakenBack, EveryRecallTakesBack, EveryHandInTakesBack, EveryDayComes, EveryStandingTells}
 use Rattle.lending.specs.Promise.{Returned, Conserved, LendingConserved, EveryCallConserves}
-use Rattle.lending.proofs.Rolls.{in_find, find_in}
+use Rattle.lending.proofs.Rolls.{find_in}
 use Rattle.lending.proofs.Invariant.{Inv, writes_when_alone, alone_when_writes}
 use Rattle.lending.proofs.Families.{family_joins}
 use Rattle.lending.proofs.Numbers.{Has, has_live, hasnt_live, has_or_not}
@@ -190,7 +190,7 @@ module _ {S : Type 0} (K : Kind S) (L : Laws K) where
     after = λ start up ms leads l found.
         let k = kept K L start up ms s leads in let f = find_in s.core.roll n l found in
         subst (λ (m : ℕ). Does K s (recall m) a t → (x : S) × (lent K ms m ≡ Some x) × TakenBack K s t l x) f.1
-            (λ d. taken K L ms s k l f.0 a t (recalled K L ms s k l f.0 a t d)) does;
+        (λ d. taken K L ms s k l f.0 a t (recalled K L ms s k l f.0 a t d)) does;
   }
 
   pub every_hand_in_takes_back : EveryHandInTakesBack K
@@ -198,7 +198,7 @@ module _ {S : Type 0} (K : Kind S) (L : Laws K) where
     after = λ start up ms leads l found.
         let k = kept K L start up ms s leads in let f = find_in s.core.roll n l found in
         subst (λ (m : ℕ). Does K s (hand_in m) a t → (x : S) × (lent K ms m ≡ Some x) × TakenBack K s t l x) f.1
-            (λ d. taken K L ms s k l f.0 a t (handed_in K L ms s k l f.0 a t d)) does;
+        (λ d. taken K L ms s k l f.0 a t (handed_in K L ms s k l f.0 a t d)) does;
   }
 
   pub every_day_comes : EveryDayComes K

@@ -8,7 +8,7 @@ use Rattle.desk.proofs.days.due_of.Goals as goal
 pub loop-lease-init : goal.loop-lease-init
 loop-lease-init g c =
     begins (due_by c.args.day) (g.O.Office.meaning c.args.office.now).core.roll (left g.O.Office.meaning c.into_iter-lease-iterator.result) c.new-numbers.result.items
-        (ap (left g.O.Office.meaning) c.into_iter-lease-iterator.ensures.into_iter_gives ∙ c.leases-lease-items.ensures) c.new-numbers.ensures
+    (ap (left g.O.Office.meaning) c.into_iter-lease-iterator.ensures.into_iter_gives ∙ c.leases-lease-items.ensures) c.new-numbers.ensures
 
 pub push-requires : goal.push-requires
 push-requires g c =
@@ -19,12 +19,12 @@ push-requires g c =
 pub loop-lease-preserved-then-lease-day : goal.loop-lease-preserved-then-lease-day
 loop-lease-preserved-then-lease-day g c =
     noted (due_by c.args.day) (g.O.Office.meaning c.args.office.now).core.roll c.loop-lease.yielded c.in-Some.lease (left g.O.Office.meaning c.next.new.self) (left g.O.Office.meaning c.loop-lease.lease-iterator) c.loop-lease.numbers.items c.push.new.self.items c.in-Some.ensures.steps c.loop-lease.invariant
-        (le-leb c.in-Some.lease.due c.args.day c.if-lease-day.true) c.push.ensures.items
+    (le-leb c.in-Some.lease.due c.args.day c.if-lease-day.true) c.push.ensures.items
 
 pub loop-lease-preserved : goal.loop-lease-preserved
 loop-lease-preserved g c =
     passed (due_by c.args.day) (g.O.Office.meaning c.args.office.now).core.roll c.loop-lease.yielded c.in-Some.lease (left g.O.Office.meaning c.next.new.self) (left g.O.Office.meaning c.loop-lease.lease-iterator) c.loop-lease.numbers.items c.in-Some.ensures.steps c.loop-lease.invariant
-        (lt-leb c.in-Some.lease.due c.args.day c.if-lease-day.false)
+    (lt-leb c.in-Some.lease.due c.args.day c.if-lease-day.false)
 
 pub returns : goal.returns
 returns g c =

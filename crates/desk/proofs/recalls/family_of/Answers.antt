@@ -1,4 +1,4 @@
-use Rattle.std.proofs.Common.{◌≡◌, Bool, true, false, ◌||◌, ◌++◌, sym, ap, ◌∙◌, ap₂, subst, eqb, arith}
+use Rattle.std.proofs.Common.{◌≡◌, Bool, true, ◌||◌, ◌++◌, sym, ap, ◌∙◌, ap₂, subst, eqb, arith}
 use Rattle.std.specs.List.{list_any}
 use Rattle.std.specs.List.Sorted.{IsNonDecreasing}
 use Rattle.std.proofs.lemmas.Bool.{eq-eqb, ne_eqb}
@@ -12,7 +12,7 @@ pub loop-lease-init : goal.loop-lease-init
 loop-lease-init g c =
     let roll = (g.O.Office.meaning c.args.office.now).core.roll in
     begins (in_it roll c.args.top) roll (left g.O.Office.meaning c.into_iter-lease-iterator.result) c.new-numbers.result.items
-        (ap (left g.O.Office.meaning) c.into_iter-lease-iterator.ensures.into_iter_gives ∙ c.leases-lease-items.ensures) c.new-numbers.ensures
+    (ap (left g.O.Office.meaning) c.into_iter-lease-iterator.ensures.into_iter_gives ∙ c.leases-lease-items.ensures) c.new-numbers.ensures
 
 pub has-requires : goal.has-requires
 has-requires g c =
@@ -53,8 +53,8 @@ loop-lease-preserved g c =
     let front = c.loop-lease.yielded in
     let at = ap (λ ls. front ++ ls) (sym c.in-Some.ensures.steps) ∙ c.loop-lease.invariant.0 in
     passed (in_it s.core.roll c.args.top) s.core.roll front x rest (left g.O.Office.meaning c.loop-lease.lease-iterator) c.loop-lease.numbers.items c.in-Some.ensures.steps c.loop-lease.invariant
-        (next_mark K s o c.args.top c.requires front x rest at
-          ∙ ap₂ (λ (a b : Bool). a || b) (ne_eqb x.number c.args.top c.if-lease-top.false) (ap (list_any (λ n. eqb n x.lender)) (sym (c.as_slice.ensures.value ∙ c.loop-lease.invariant.1)) ∙ sym c.has.ensures ∙ c.if-has.false))
+    (next_mark K s o c.args.top c.requires front x rest at
+    ∙ ap₂ (λ (a b : Bool). a || b) (ne_eqb x.number c.args.top c.if-lease-top.false) (ap (list_any (λ n. eqb n x.lender)) (sym (c.as_slice.ensures.value ∙ c.loop-lease.invariant.1)) ∙ sym c.has.ensures ∙ c.if-has.false))
 
 pub returns : goal.returns
 returns g c =

@@ -1,8 +1,6 @@
-use Rattle.std.proofs.Common.{◌≡◌, ℕ, List, [], ◌∷◌, length, reverse, refl, sym, ap, ◌∙◌, subst, arith}
+use Rattle.std.proofs.Common.{◌≡◌, ℕ, List, [], ◌∷◌, length, reverse, refl, sym, ap, ◌∙◌, arith}
 use Rattle.std.proofs.lemmas.List.{reverse-append}
 use Rattle.lending.specs.Above.{yields}
-use Rattle.lending.specs.Outcome.Answer.{done}
-use Rattle.lending.specs.Outcome.Outcome.{grants}
 use Rattle.lending.specs.Told.{told}
 use Rattle.lending.proofs.Going.{objecting, yields_on, no_yields}
 use Rattle.desk.proofs.sweep.yield_down.Goals as goal
@@ -25,8 +23,7 @@ loop-number-preserved g c =
     let t = g.O.Office.meaning c.yield_lease.new.self in
     let n = c.in-Some.number.now in
     let rest = c.next.new.self.iter.rest.now in
-    let r : reverse c.loop-number.number-iterator.iter.rest.now ≡ n ∷ reverse rest = ap reverse c.in-Some.ensures.steps ∙ reverse-append rest (n ∷ []) in
-    (
+    let r : reverse c.loop-number.number-iterator.iter.rest.now ≡ n ∷ reverse rest = ap reverse c.in-Some.ensures.steps ∙ reverse-append rest (n ∷ []) in (
       λ u h.
           let v = c.loop-number.invariant.0 u h in
           (objecting K t.objections v.0, yields_on K n (reverse rest) s t v.0 (told c.yield_lease.result) (ap (yields K s) (sym r) ∙ v.1) c.yield_lease.ensures.does, v.2),
