@@ -1,7 +1,7 @@
 // Making calls, and printing what comes of them.
 use crate::read::{Line, SetUp, Unreadable};
-use crate::show::{print_answer, print_roll};
-use calls::{Call, make};
+use crate::show::{print_answer, print_calls, print_roll};
+use calls::{Call, Tallies, make, make_all};
 use chain::Chain;
 use ledger::Ledger;
 use lending::Lease;
@@ -14,7 +14,7 @@ use term::Term;
 pub(crate) fn serve<S: Printed>(
     rt: &HostRuntime,
     office: SetUp,
-    lines: &[Result<Line, Unreadable>],
+    lines: &[Line],
 ) -> anyhow::Result<()> {
     println!(rt; "{office}")?;
     let free = Lease {
@@ -34,16 +34,17 @@ fn serve_over<S: Printed, O: Office<Kind = S> + Drop>(
     rt: &HostRuntime,
     below: O,
     office: SetUp,
-    lines: &[Result<Line, Unreadable>],
+    lines: &[Line],
 ) -> anyhow::Result<()> {
     let chain = Chain::over(below, office.chain);
     let term = Term::over(chain, office.term);
     let mut pile = Quota::over(term, office.quota);
     for line in lines {
         match line {
-            Ok(Line::Call(call)) => answer(rt, &mut pile, *call)?,
+            Line::Call(call) => answer(rt, &mut pile, *call)?,
+            Line::List(calls) => answer_list(rt, &mut pile, calls)?,
             // no office stands here: each begins a part of the lines
-            Ok(Line::Office(_)) | Err(Unreadable) => println!(rt; "{Unreadable}")?,
+            Line::Office(_) | Line::Unreadable => println!(rt; "{Unreadable}")?,
         }
     }
     Ok(())
@@ -58,8 +59,29 @@ fn answer<S: Printed, O: Office<Kind = S>>(
     println!(rt; "{call}")?;
     print_answer(rt, call, make(office, call))?;
     match call {
-        Call::Count | Call::Issued | Call::Today | Call::LeaseAt { .. } | Call::LeaseOf { .. } =>
-            Ok(()),
+        Call::Count
+        | Call::Issued
+        | Call::Today
+        | Call::LeaseAt { .. }
+        | Call::LeaseOf { .. }
+        | Call::Standing { .. } => Ok(()),
         _ => print_roll(rt, office),
     }
+}
+
+// Makes a list of calls, and prints them, what they closed, and the roll after them.
+fn answer_list<S: Printed, O: Office<Kind = S>>(
+    rt: &HostRuntime,
+    office: &mut O,
+    calls: &[Call],
+) -> anyhow::Result<()> {
+    print_calls(rt, calls)?;
+    let Tallies {
+        yielded,
+        merged,
+        recalled,
+        lapsed,
+    } = make_all(office, calls);
+    println!(rt; "  closed: {yielded} yielded, {merged} merged, {recalled} recalled, {lapsed} lapsed")?;
+    print_roll(rt, office)
 }

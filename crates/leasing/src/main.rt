@@ -6,7 +6,7 @@ mod read;
 mod show;
 
 use crate::answer::serve;
-use crate::read::{Line, Unreadable};
+use crate::read::{Line, Unreadable, read_line};
 use kinds::{of_kind, *};
 use std::io::ErrorKind;
 
@@ -20,9 +20,9 @@ fn answer_all(rt: &HostRuntime) -> anyhow::Result<()> {
     if lines.is_empty() {
         println!(rt; "{Unreadable}")?;
     }
-    for part in lines.chunk_by(|_, line| !matches!(line, Ok(Line::Office(_)))) {
+    for part in lines.chunk_by(|_, line| !matches!(line, Line::Office(_))) {
         match part {
-            [Ok(Line::Office(office)), calls @ ..] => {
+            [Line::Office(office), calls @ ..] => {
                 of_kind!(office.kind, serve(rt, *office, calls))?;
             }
             _ => {
@@ -36,12 +36,12 @@ fn answer_all(rt: &HostRuntime) -> anyhow::Result<()> {
 }
 
 // The lines of standard input, as far as they can be read.
-fn read_all(rt: &HostRuntime) -> anyhow::Result<Vec<Result<Line, Unreadable>>> {
+fn read_all(rt: &HostRuntime) -> anyhow::Result<Vec<Line>> {
     let mut lines = Vec::new(rt.alloc());
     for line in rt.lines(rt.alloc()) {
         match line {
-            Ok(line) => lines.push(line.as_str().parse())?,
-            Err(error) if error.kind() == ErrorKind::InvalidData => lines.push(Err(Unreadable))?,
+            Ok(line) => lines.push(read_line(rt.alloc(), line.as_str())?)?,
+            Err(error) if error.kind() == ErrorKind::InvalidData => lines.push(Line::Unreadable)?,
             Err(error) => return Err(error.into()),
         }
     }

@@ -1,7 +1,8 @@
 // Reading lines.
-use calls::Call;
+use calls::{Call, NotACall};
 use kinds::{KIND_NAMES, KindOfShare, NoSuchKind};
 use lending::MOST_ROWS;
+use std::alloc::{AllocError, Global};
 use std::fmt;
 use std::num::ParseIntError;
 use std::str::{FromStr, SplitWhitespace};
@@ -35,10 +36,36 @@ impl fmt::Display for SetUp {
 }
 
 // What a line asks for.
-#[derive(Clone, Copy, Drop)]
+#[derive(Drop)]
 pub(crate) enum Line {
     Office(SetUp),
     Call(Call),
+    // calls to be made one after another
+    List(Vec<Call>),
+    Unreadable,
+}
+
+// Reads a line: calls with semicolons between them are a list.
+pub(crate) fn read_line(alloc: Global, line: &str) -> Result<Line, AllocError> {
+    if line.contains(';') {
+        return read_list(alloc, line);
+    }
+    Ok(match line.parse() {
+        Ok(call) => Line::Call(call),
+        Err(NotACall) => line.parse().map_or(Line::Unreadable, Line::Office),
+    })
+}
+
+// Reads a list of calls.
+fn read_list(alloc: Global, line: &str) -> Result<Line, AllocError> {
+    let mut calls = Vec::new(alloc);
+    for call in line.split(';') {
+        match call.parse() {
+            Ok(call) => calls.push(call)?,
+            Err(NotACall) => return Ok(Line::Unreadable),
+        }
+    }
+    Ok(Line::List(calls))
 }
 
 // The error of a line that can't be read. It prints what is expected.
@@ -49,7 +76,7 @@ impl fmt::Display for Unreadable {
     fn fmt<W: fmt::Write>(&self, f: &mut fmt::Formatter<W>) -> fmt::Result {
         write!(
             f,
-            "expected: office KIND ROWS QUOTA TERM CHAIN (KIND is {KIND_NAMES}), or a call to that office: open RESOURCE HOLDER, delegate LENDER HOLDER DUE, yield LEASE, merge A B, assign LEASE HOLDER, set_day DAY, count, issued, today, lease NUMBER or lease_at POSITION"
+            "expected: office KIND ROWS QUOTA TERM CHAIN (KIND is {KIND_NAMES}), or a call to that office: open RESOURCE HOLDER, delegate LENDER HOLDER DUE, yield LEASE, merge A B, assign LEASE HOLDER, set_day DAY, recall LEASE, day DAY, hand_in LEASE, standing RESOURCE HOLDER, count, issued, today, lease NUMBER, lease_at POSITION, or some of these with semicolons between them"
         )
     }
 }
@@ -63,15 +90,6 @@ impl From<NoSuchKind> for Unreadable {
 impl From<ParseIntError> for Unreadable {
     fn from(_error: ParseIntError) -> Unreadable {
         Unreadable
-    }
-}
-
-impl FromStr for Line {
-    type Err = Unreadable;
-
-    fn from_str(line: &str) -> Result<Line, Unreadable> {
-        let call = line.parse().map(Line::Call);
-        call.or_else(|_| line.parse().map(Line::Office))
     }
 }
 

@@ -6,7 +6,17 @@ use office::Office;
 use shares::{Printed, Text};
 use std::fmt;
 
-// The answer to a call. A number in answer to a call that isn't a question is that of the lease that was issued.
+// Some calls, on one line.
+pub(crate) fn print_calls(rt: &HostRuntime, calls: &[Call]) -> anyhow::Result<()> {
+    for (position, call) in calls.iter().enumerate() {
+        let before = if position == 0 { "" } else { "; " };
+        print!(rt; "{before}{call}")?;
+    }
+    println!(rt)?;
+    Ok(())
+}
+
+// The answer to a call.
 pub(crate) fn print_answer<S: Printed>(
     rt: &HostRuntime,
     call: Call,
@@ -16,8 +26,15 @@ pub(crate) fn print_answer<S: Printed>(
         Ok(Answer::Done) => println!(rt; "  granted")?,
         Ok(Answer::Number(number)) => match call {
             Call::Open { .. } | Call::Delegate { .. } => println!(rt; "  granted, lease {number}")?,
+            Call::Recall { .. } | Call::Day { .. } | Call::HandIn { .. } => {
+                println!(rt; "  granted, {number} closed")?
+            }
             _ => println!(rt; "  {number}")?,
         },
+        Ok(Answer::Share(share)) => {
+            let text = Text(share);
+            println!(rt; "  share {text}")?;
+        }
         Ok(Answer::Lease(lease)) => {
             let entry = Entry(lease);
             println!(rt; "  {entry}")?;
