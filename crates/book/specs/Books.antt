@@ -14,17 +14,16 @@ use Rattle.book.specs.Told.{number_of}
 abbrev pub count_in : List ℕ → ℕ
 count_in b = number_at b 0
 
--- 44: bytes 6 and 7 are not zero; 45: the length is not that of so many events
+-- 43: byte 2 is no kind; 44: byte 6 or byte 7 is not zero; 45: the length is not that of so many events
 abbrev pub with_kind : List ℕ → Option KindOfShare → Result Header ℕ
 with_kind b None = Err 43
 with_kind b (Some kind) =
-    if number_at b 6 == 0 then
+    if nat_lt 0 (number_at b 6) then Err 44 else
     (if length b == 8 + 7 * count_in b then
     Ok (record { events = count_in b; kind = kind; chain = slice_index b 3; term = number_at b 4 })
     else Err 45)
-    else Err 44
 
--- Opening a book: what its header says, or the number of its refusal.
+-- Opening a book: what its header says, or the number of its refusal. 41: there is no header; 42: there are too many events.
 abbrev pub opening : List ℕ → Result Header ℕ
 opening b =
     if nat_lt (length b) 8 then Err 41 else
