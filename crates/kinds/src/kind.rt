@@ -1,5 +1,6 @@
-ghost use Rattle.std.specs.Prelude.{◌≡◌, Some};
+ghost use Rattle.std.specs.Prelude.{◌≡◌, Some, IfSome};
 ghost use Rattle.kinds.specs.Named.{name_of, Named};
+ghost use Rattle.kinds.specs.Bytes.{byte_of, kind_of_byte};
 
 use std::fmt;
 use std::str::FromStr;
@@ -28,6 +29,18 @@ impl KindOfShare {
         match self {
             KindOfShare::Trees => "trees",
             KindOfShare::Counting => "counting",
+        }
+    }
+
+    // The kind that a byte of a book stands for, if it stands for one.
+    pub fn of_byte(byte: u8) -> Option<KindOfShare>
+        ensures is { result ≡ kind_of_byte byte }
+        ensures byte { IfSome result (λ kind. byte_of kind ≡ byte) }
+    {
+        match byte {
+            1 => Some(KindOfShare::Trees),
+            2 => Some(KindOfShare::Counting),
+            _ => None,
         }
     }
 }

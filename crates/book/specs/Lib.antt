@@ -1,0 +1,6 @@
+pub mod Limits
+pub mod Told
+pub mod Bytes
+pub mod Codes
+pub mod Events
+pub mod Books

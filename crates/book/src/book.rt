@@ -1,0 +1,69 @@
+ghost use Rattle.std.specs.Prelude.{◌≡◌, ◌*◌, ◌≤◌, length};
+ghost use Rattle.book.specs.Limits.{most_events};
+
+use crate::event::Event;
+use crate::header::Header;
+use crate::limits::{EVENT, MOST_EVENTS, RECORD};
+use crate::reason::BookReason;
+use kinds::KindOfShare;
+
+// A tenancy book that was opened: what its header says, and its two arrays, which are lent from its bytes.
+#[derive(Clone, Copy, Debug, Drop)]
+pub struct Book<'a> {
+    pub header: Header,
+    // a byte for each event
+    pub codes: &'a [u8],
+    // six bytes for each event
+    pub records: &'a [u8],
+    ghost few: { header.events ≤ most_events },
+    ghost coded: { length codes.now ≡ header.events },
+    ghost recorded: { length records.now ≡ 6 * header.events },
+}
+
+impl<'a> Book<'a> {
+    ghost use Rattle.std.specs.Prelude.{IfOk};
+    ghost use Rattle.book.specs.Books.{opening, opened, bytes_of, event_in, event_of};
+
+    // Opens a book, or refuses its bytes by the first rule that they break. A book that opens is all of its bytes.
+    pub fn open(bytes: &'a [u8]) -> Result<Book<'a>, BookReason>
+        ensures is { opened result ≡ opening bytes.now }
+        ensures whole { IfOk result (λ book. bytes_of book ≡ bytes.now) }
+    {
+        let [n0, n1, kind, chain, t0, t1, z0, z1, rest @ ..] = bytes else {
+            return Err(BookReason::TooShort);
+        };
+        let events = u16::from_le_bytes([*n0, *n1]);
+        if events > MOST_EVENTS {
+            return Err(BookReason::TooManyEvents);
+        }
+        let kind = KindOfShare::of_byte(*kind).ok_or(BookReason::NoSuchKind)?;
+        if *z0 != 0 || *z1 != 0 {
+            return Err(BookReason::NotZero);
+        }
+        if rest.len() != EVENT * usize::from(events) {
+            return Err(BookReason::WrongLength);
+        }
+        let (codes, records) = rest.split_at(usize::from(events));
+        let header = Header {
+            events,
+            kind,
+            chain: *chain,
+            term: u16::from_le_bytes([*t0, *t1]),
+        };
+        Ok(Book {
+            header,
+            codes,
+            records,
+        })
+    }
+
+    // Event i of the book, from 0, if there are so many: its record is that very part of the book.
+    #[tactic(auto, using(crate::proofs::Parts::event_at))]
+    pub fn event(&self, i: usize) -> Option<Event<'a>>
+        ensures { event_of result ≡ event_in (bytes_of self.now) i }
+    {
+        let code = *self.codes.get(i)?;
+        let bytes = self.records[RECORD * i..].first_chunk()?;
+        Some(Event { code, bytes })
+    }
+}

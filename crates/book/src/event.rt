@@ -1,0 +1,48 @@
+ghost use Rattle.std.specs.Prelude.{◌≡◌, ◌==◌};
+ghost use Rattle.std.specs.List.{list_all};
+ghost use Rattle.book.specs.Events.{operands_of, asked, asked_of};
+
+use crate::code::Code;
+use crate::limits::RECORD;
+use crate::reason::BookReason;
+
+// An event of a book: the byte of its code, and its record, which is that very part of the book.
+#[derive(Clone, Copy, Debug, Drop)]
+pub struct Event<'a> {
+    pub code: u8,
+    pub bytes: &'a [u8; RECORD],
+}
+
+impl Event<'_> {
+    // The three operands of its record.
+    pub fn operands(&self) -> [u16; 3]
+        ensures { result ≡ operands_of self.now.bytes.now }
+    {
+        let [a0, a1, b0, b1, c0, c1] = *self.bytes;
+        [
+            u16::from_le_bytes([a0, a1]),
+            u16::from_le_bytes([b0, b1]),
+            u16::from_le_bytes([c0, c1]),
+        ]
+    }
+
+    // What it asks for, with its operands. Refused if no call has its code, or an operand that the call doesn't use is not 0.
+    pub fn asked(&self) -> Result<(Code, [u16; 3]), BookReason>
+        ensures { asked_of result ≡ asked self.now.code self.now.bytes.now }
+    {
+        let code = Code::of_byte(self.code).ok_or(BookReason::UnknownCode)?;
+        let operands = self.operands();
+        if are_zero(&operands[code.used()..]) {
+            Ok((code, operands))
+        } else {
+            Err(BookReason::UnusedOperand)
+        }
+    }
+}
+
+// Whether all of some operands are 0.
+fn are_zero(operands: &[u16]) -> bool
+    ensures { result ≡ list_all (λ operand. operand == 0) operands.now }
+{
+    operands.iter().all(|operand| *operand == 0)
+}

@@ -1,0 +1,20 @@
+// The tenancy book: its header, its events, and the operands of an event, read from bytes that somebody lends. Any bytes at
+// all are either refused, by the number of the first rule that they break, or opened.
+#![tactic(auto)]
+
+mod book;
+mod code;
+mod event;
+mod header;
+mod limits;
+mod reason;
+
+pub use book::Book;
+pub use code::Code;
+pub use event::Event;
+pub use header::Header;
+pub use limits::{EVENT, HEADER, MOST_BYTES, MOST_EVENTS, RECORD};
+pub use reason::BookReason;
+
+#[cfg(test)]
+mod tests;

@@ -1,0 +1,12 @@
+-- The bytes of the kinds of share, by which a book says which kind it is of.
+use Rattle.std.specs.Prelude.{ℕ, Option, Some, None, ◌==◌, if◌then◌else◌}
+use Rattle.kinds.specs.declared.kind.KindOfShare.{KindOfShare}
+use Rattle.kinds.specs.declared.kind.KindOfShare.TheVariants.{Trees, Counting}
+
+abbrev pub byte_of : KindOfShare → ℕ
+byte_of Trees = 1
+byte_of Counting = 2
+
+-- the kind whose byte it is, if there is one
+abbrev pub kind_of_byte : ℕ → Option KindOfShare
+kind_of_byte byte = if byte == 1 then Some Trees else (if byte == 2 then Some Counting else None)
