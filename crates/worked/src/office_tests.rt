@@ -1,6 +1,8 @@
 use crate::share_tests::prints;
 use chain::Chain;
-use desk::{assign, delegate, lease_at, merge, open, set_day, yield_lease};
+use desk::{
+    Slip, assign, day, delegate, lease_at, may_write, merge, open, recall, standing, yield_lease,
+};
 use ledger::Ledger;
 use lending::{Lease, Refusal};
 use office::Office;
@@ -40,7 +42,7 @@ fn stands<S: Printed, O: Office<Kind = S>>(
         && prints(lease.share, text))
 }
 
-// Ten calls to a pile of three layers: the worked book, with yields where it has a day and a recall.
+// Ten calls to a pile of three layers: the worked book.
 fn ten_calls<S: Printed, O: Office<Kind = S> + Drop>(rt: &impl Abort, below: O) {
     let mut office = Quota::over(Term::over(Chain::over(below, 2), 30), 64);
     assert_eq!(rt; open(&mut office, 7, 1), Ok(1));
@@ -48,13 +50,11 @@ fn ten_calls<S: Printed, O: Office<Kind = S> + Drop>(rt: &impl Abort, below: O) 
     assert_eq!(rt; delegate(&mut office, 2, 3, 10), Ok(3));
     assert_eq!(rt; refusal(delegate(&mut office, 3, 4, 5)), Some((23, 2)));
     assert_eq!(rt; refusal(yield_lease(&mut office, 2)), Some((9, 3)));
-    assert_eq!(rt; refusal(set_day(&mut office, 10)), Some((14, 3)));
-    assert!(rt; yield_lease(&mut office, 3).is_ok());
-    assert!(rt; set_day(&mut office, 10).is_ok());
+    assert_eq!(rt; day(&mut office, 10), Ok(1));
     assert!(rt; assign(&mut office, 2, 1).is_ok());
     assert_eq!(rt; refusal(delegate(&mut office, 1, 5, 41)), Some((22, 1)));
     assert_eq!(rt; delegate(&mut office, 1, 5, 40), Ok(4));
-    assert!(rt; yield_lease(&mut office, 2).is_ok());
+    assert_eq!(rt; recall(&mut office, 2), Ok(1));
     assert!(rt; stands(&office, 0, 1, b"((10)1)"));
     assert!(rt; stands(&office, 1, 4, b"((01)0)"));
 }
@@ -88,6 +88,57 @@ fn merge_and_give_back<S: Printed, O: Office<Kind = S> + Drop>(rt: &impl Abort, 
 fn merged_leases_come_back_whole(rt: HostRuntime) {
     let mut rows = [free_row(); 8];
     merge_and_give_back(&rt, Ledger::new(&mut rows));
+}
+
+// The editor, holder 1, lends two shares to holder 2, who lends on from the second, and one to transcriber 4. The two are
+// merged, and the lease that has both is recalled. The editor may not write before the transcriber's share is back too.
+fn merge_and_recall<S: Printed, O: Office<Kind = S> + Drop>(rt: &impl Abort, mut office: O) {
+    assert_eq!(rt; open(&mut office, 7, 1), Ok(1));
+    assert!(rt; may_write(&office, 7, 1));
+    assert_eq!(rt; delegate(&mut office, 1, 2, 20), Ok(2));
+    assert_eq!(rt; delegate(&mut office, 1, 2, 20), Ok(3));
+    assert_eq!(rt; delegate(&mut office, 1, 4, 30), Ok(4));
+    assert_eq!(rt; delegate(&mut office, 3, 3, 10), Ok(5));
+    assert!(rt; merge(&mut office, 2, 3).is_ok());
+    assert_eq!(rt; recall(&mut office, 2), Ok(2));
+    assert!(rt; stands(&office, 0, 1, b"(((10)1)1)"));
+    assert!(rt; !may_write(&office, 7, 1));
+    assert!(rt; !may_write(&office, 7, 4));
+    assert_eq!(rt; Slip::draw(4).hand_in(&mut office), 1);
+    assert_eq!(rt; Slip::draw(4).hand_in(&mut office), 0);
+    assert!(rt; stands(&office, 0, 1, b"1"));
+    assert!(rt; may_write(&office, 7, 1));
+}
+
+#[test]
+fn the_editor_is_no_sole_holder_while_a_share_is_out(rt: HostRuntime) {
+    let mut rows = [free_row(); 8];
+    merge_and_recall(&rt, Ledger::new(&mut rows));
+}
+
+// A day closes what falls due by it, with all that is under it, and a refused recall or day closes nothing.
+fn days_go_by<S: Printed, O: Office<Kind = S> + Drop>(rt: &impl Abort, mut office: O) {
+    assert_eq!(rt; open(&mut office, 7, 1), Ok(1));
+    assert_eq!(rt; delegate(&mut office, 1, 2, 20), Ok(2));
+    assert_eq!(rt; delegate(&mut office, 2, 3, 10), Ok(3));
+    assert_eq!(rt; delegate(&mut office, 1, 3, 30), Ok(4));
+    assert_eq!(rt; day(&mut office, 9), Ok(0));
+    assert_eq!(rt; refusal(day(&mut office, 8)), Some((13, 0)));
+    assert_eq!(rt; refusal(day(&mut office, 10000)), Some((13, 0)));
+    assert_eq!(rt; refusal(recall(&mut office, 5)), Some((6, 0)));
+    assert_eq!(rt; day(&mut office, 20), Ok(2));
+    assert!(rt; stands(&office, 0, 1, b"((10)1)"));
+    assert!(rt; stands(&office, 1, 4, b"((01)0)"));
+    assert!(rt; prints(standing(&office, 7, 3), b"((01)0)"));
+    assert!(rt; prints(standing(&office, 7, 2), b"0"));
+    assert_eq!(rt; day(&mut office, 9999), Ok(1));
+    assert_eq!(rt; recall(&mut office, 1), Ok(1));
+}
+
+#[test]
+fn leases_lapse(rt: HostRuntime) {
+    let mut rows = [free_row(); 8];
+    days_go_by(&rt, Ledger::new(&mut rows));
 }
 
 #[test]
