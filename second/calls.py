@@ -1,10 +1,11 @@
 #!/usr/bin/env python3
-"""Prints input for `leasing`: offices and calls to them, most of them sensible, some wrong and some unreadable.
+"""Prints input for `leasing`: offices, and calls and lists of calls to them, most sensible, some wrong, some unreadable.
 
-    second/calls.py SEED OFFICES CALLS   so many offices with about so many calls each, the same for the same seed
+    second/calls.py SEED OFFICES LINES   so many offices with about so many lines each, the same for the same seed
     second/calls.py numbers              an office that issues all 60,000 numbers
     second/calls.py readers              an office of counting shares that gives out all 4,095 readers
     second/calls.py rows                 an office that fills all 1,024 rows
+    second/calls.py families             families as large and as deep as can be, closed by a call each, in long lists
 
 Makes each call to an office of its own too, so as to know what is live.
 """
@@ -23,11 +24,19 @@ UNREADABLE = [
     b'open \xc2\xb2 1', b'open 1 1\xff', b'delegate 1 2', b'delegate 1 2 3 4', b'yield', b'yield 1 2',
     b'yield 1 # the last', b'yield_lease 1', b'merge 1', b'merge 1 2 3', b'assign 1', b'assign 1 2 3', b'set_day',
     b'set_day 1 2', b'set day 1', b'set_day 70000', b'count 1', b'issued issued', b'today 0', b'lease', b'lease 1 2',
-    b'lease -1', b'lease_at', b'lease_at 65536', b'recall 1', b'day 3', b'granted', b'office', b'office trees',
+    b'lease -1', b'lease_at', b'lease_at 65536', b'recall', b'recall 1 2', b'recall 65536',
+    b'recall all', b'day', b'day 1 2', b'day -1', b'Day 3', b'hand_in', b'hand_in 1 2', b'hand in 1', b'hand-in 1',
+    b'standing', b'standing 1', b'standing 1 2 3', b'standing 1 two', b'granted', b'office', b'office trees',
     b'office trees 4 2 30', b'office trees 4 2 30 1 1', b'office oaks 4 2 30 1', b'office TREES 4 2 30 1',
     b'office 4 trees 2 30 1', b'office trees 65536 2 30 1', b'office counting 4 2 30 -1', b'\xff\xfe', b'count \xc3',
     b'\xc0\xafcount', b'count\x00', b'co\xc3\xbcnt', b'"count"',
+    b'count\x1c', b'count\x1f', b'count\xe2\x80\x8b', b'\xef\xbb\xbfcount', b';', b' ; ', b';;', b'count;', b';count',
+    b'count; ;issued', b'count, issued', b'count: issued', b'count. issued', b'count issued', b'count\\; issued',
+    b'count\xcd\xbe issued', b'count\xef\xbc\x9b issued', b'count; issued 1', b'count; granted', b'count; \xff',
 ]
+
+# What spoils a list: a piece that is no call, even if it is a good line.
+NO_CALL = [*UNREADABLE, b'office trees 4 2 30 1', b'office counting 1024 64 100 8']
 
 
 def one_of(rng, tight, wide):
@@ -64,10 +73,12 @@ def twins(roll):
 
 def under(lease):
     """The numbers of the leases under a lease."""
-    found = []
-    for below in lease.lent:
-        found += [below.number] + under(below)
-    return sorted(found)
+    return sorted(below.number for below in lease.under())
+
+
+def families(roll):
+    """The leases that lent something, or all if none did."""
+    return [lease for lease in roll if lease.lent] or roll
 
 
 class Caller:
@@ -79,7 +90,7 @@ class Caller:
         self.office = leasing.set_up(*words)
         self.rows, self.quota, self.term = words[1:4]
         self.plan = []
-        self.days = sorted(rng.sample(range(2, 150), 4)) + [9998, 9999]
+        self.days = sorted(rng.sample(range(2, 150), 8)) + [9998, 9999]
         self.holders = range(1, rng.choice([3, 5, 9]))
 
     def mostly(self, sensible, odd):
@@ -153,7 +164,14 @@ class Caller:
             return self.lend_from(b)
         if self.rng.random() < 0.3:
             self.plan_yields(under(a) + under(b) + [a.number])
+        elif self.rng.random() < 0.2:
+            self.plan_recall(a)
         return 'merge', a.number, b.number
+
+    def plan_recall(self, lease):
+        """Plans to recall a lease, and to ask what its holder and its lender's have before and after."""
+        asked = [('standing', lease.resource, one.holder) for one in (lease, lease.lender)]
+        self.plan += [*asked, (self.rng.choice(['recall', 'hand_in']), lease.number), *asked]
 
     def merge_many(self, roll):
         """Plans to merge all leases that can be merged into one lease."""
@@ -205,6 +223,33 @@ class Caller:
         near = [today, today + 1, today + 2, min(due - 1, today + 9), due]
         return 'set_day', self.mostly(near, [due - 1, due + 1, max(today - 1, 0), *ODD])
 
+    def recall(self, roll):
+        """Recalls a lease, mostly one that lent something, or hands in its slip."""
+        leases = families(roll) if self.rng.random() < 0.7 else roll
+        return self.rng.choice(['recall', 'hand_in']), self.pick(leases).number
+
+    def recall_any(self, roll):
+        """Recalls any lease or hands in any slip, often of a lease that isn't live."""
+        issued = self.office.ask('issued')
+        return self.rng.choice(['recall', 'hand_in']), self.rng.choice([self.number(roll), self.rng.randint(1, issued)])
+
+    def move_day(self, roll):
+        """Closes what falls due first, at times with all that somebody lent or with more, and rarely everything lent."""
+        today = self.office.ask('today')
+        first = min(lease.due for lease in roll)
+        lent = [lease.due for lease in self.pick(families(roll)).lent]
+        near = [today, first, first, first, max(lent, default=first), first + 1, first - 1]
+        return 'day', self.mostly([day for day in near if day < 9998], [today, max(today - 1, 0), *ODD])
+
+    def standing(self, roll):
+        """Asks what a holder has of a resource, mostly one who has something of it, or more than one lease."""
+        lease, other = self.rng.choice(roll), self.rng.choice(roll)
+        held = [(lease.resource, lease.holder) for lease in roll]
+        often = [pair for pair in held if held.count(pair) > 1] or held
+        number = self.rng.choice(ODD)
+        odd = [(lease.resource, other.holder), (number, lease.holder), (lease.resource, number)]
+        return ('standing', *self.mostly(often, odd))
+
     def question(self, roll):
         """Asks a question."""
         position = self.mostly([0, len(roll) - 1, len(roll), self.rng.randint(0, len(roll))], ODD)
@@ -217,13 +262,16 @@ class Caller:
         return (call, *(self.rng.choice([self.number(roll), self.rng.choice(ODD)]) for _ in range(count)))
 
     WAYS = {open: 7, lend: 14, lend_deep: 10, lend_often: 3, lend_twin: 9, lend_under_twin: 12, merge: 12, merge_many: 2,
-            merge_wrong: 4, yield_last: 6, yield_any: 4, yield_all: 1, assign: 5, set_day: 4, question: 6, anything: 4}
-    WAYS_WHEN_FULL = {merge: 6, merge_many: 2, yield_last: 4, yield_any: 3, yield_all: 1, assign: 2, set_day: 1}
+            merge_wrong: 4, yield_last: 6, yield_any: 4, yield_all: 1, assign: 5, set_day: 4, recall: 3, recall_any: 3,
+            move_day: 4, standing: 6, question: 6, anything: 5}
+    WAYS_WHEN_FULL = {merge: 6, merge_many: 2, yield_last: 4, yield_any: 3, yield_all: 1, assign: 2, set_day: 1,
+                      recall: 1, recall_any: 1, move_day: 2, standing: 2}
 
     def first(self):
         """A call where nothing is live."""
         day = self.rng.choice(self.days)
-        odd = [('set_day', day), ('lease_at', 0), ('lease', 1), ('delegate', 1, 1, day), ('merge', 1, 2), ('yield', 1)]
+        odd = [('set_day', day), ('lease_at', 0), ('lease', 1), ('delegate', 1, 1, day), ('merge', 1, 2), ('yield', 1),
+               ('recall', 1), ('hand_in', 1), ('day', day), ('standing', 1, 1)]
         return self.mostly([self.open([])], odd)
 
     def choose(self):
@@ -246,40 +294,77 @@ class Caller:
         return words
 
     def wind_up(self):
-        """Yields everything, from the highest number down."""
-        for lease in reversed(self.office.roll()):
-            yield 'yield', lease.number
+        """The calls that close everything: yields from the highest number down, recalls, or slips of all numbers."""
+        roll = self.office.roll()
+        return self.rng.choice([
+            [('yield', lease.number) for lease in reversed(roll)],
+            [('recall', lease.number) for lease in roll if lease.lender is None],
+            [('hand_in', number) for number in range(self.office.ask('issued'), 0, -1)],
+        ])
 
 
-def written(rng, words):
-    """A line with these words: now and then with odd blanks, plus signs and zeros."""
-    if rng.random() < 0.94:
-        return ' '.join(map(str, words)).encode()
+BLANKS = [' ', '  ', '\t', ' \t ', '\v', '\f', '\r', '\u0085', '\u00a0', '\u1680', '\u2003', '\u2028', '\u3000']
+
+
+def oddly(rng, call, blank):
+    """A call with odd blanks, and with plus signs and zeros."""
     signs = ['', '+', '0', '+000', '0' * 300]
-    words = [rng.choice(signs) + str(word) if isinstance(word, int) else word for word in words]
-    blank = rng.choice([' ', '  ', '\t', ' \t ', '\u00a0', '\u2003'])
-    return (rng.choice(['', blank]) + blank.join(words) + rng.choice(['', blank, '\r'])).encode()
+    words = [rng.choice(signs) + str(word) if isinstance(word, int) else word for word in call]
+    return rng.choice(['', blank]) + blank.join(words) + rng.choice(['', blank, '\r'])
 
 
-def office_lines(rng, calls):
+def written(rng, *calls):
+    """A line with these calls: now and then with odd blanks, plus signs and zeros."""
+    if rng.random() < 0.94:
+        return rng.choice(['; ', ';', ' ;  ']).join(' '.join(map(str, call)) for call in calls).encode()
+    blank = rng.choice(BLANKS)
+    return ';'.join(oddly(rng, call, blank) for call in calls).encode()
+
+
+def spoiled(rng, caller):
+    """A list with a piece that is no call, so that none of its calls is made."""
+    pieces = [written(rng, caller.choose()) for _ in range(rng.randint(1, 5))]
+    pieces.insert(rng.randint(0, len(pieces)), rng.choice(NO_CALL))
+    return b'; '.join(pieces)
+
+
+def some_line(rng, caller):
+    """A call or, at times, a list of calls or something unreadable."""
+    way, = rng.choices(['call', 'list', 'spoiled list', 'unreadable line'], [82, 12, 3, 3])
+    if way == 'unreadable line':
+        return rng.choice(UNREADABLE)
+    if way == 'spoiled list':
+        return spoiled(rng, caller)
+    many = rng.choice([2, 2, 3, 4, 6, 12, 30]) if way == 'list' else 1
+    return written(rng, *(caller.call() for _ in range(many)))
+
+
+def last_lines(rng, calls):
+    """Some calls, each on its own line or all in one list."""
+    return [written(rng, *calls)] if calls and rng.random() < 0.5 else [written(rng, call) for call in calls]
+
+
+def office_lines(rng, lines):
     """The lines of one office."""
     words = some_office(rng)
     caller = Caller(rng, words)
     yield written(rng, ['office', *words])
-    for _ in range(calls):
-        yield rng.choice(UNREADABLE) if rng.random() < 0.02 else written(rng, caller.call())
+    for _ in range(lines):
+        yield some_line(rng, caller)
     if rng.random() < 0.5:
-        for words in caller.wind_up():
-            yield written(rng, words)
+        yield from last_lines(rng, caller.wind_up())
 
 
-def random_lines(seed, offices, calls):
+BEFORE_OFFICES = [b'count', b'open 1 1', b'lease_at 0', b'set_day 1', b'recall 1', b'standing 1 1', b'count; issued']
+
+
+def random_lines(seed, offices, lines):
     """The lines of all offices, at times with a call before the first."""
     rng = random.Random(seed)
     if rng.random() < 0.3:
-        yield rng.choice([b'count', b'open 1 1', b'lease_at 0', b'set_day 1'])
+        yield rng.choice(BEFORE_OFFICES)
     for _ in range(offices):
-        yield from office_lines(rng, calls)
+        yield from office_lines(rng, lines)
 
 
 def number_lines():
@@ -315,7 +400,52 @@ def row_lines():
     yield from ['lease_at 1023', 'lease_at 1024', 'yield 999', 'delegate 998 1 9', 'open 999 1', 'count', 'issued']
 
 
-MODES = {'numbers': number_lines, 'readers': reader_lines, 'rows': row_lines}
+def lend_readers(lender, number, readers, due):
+    """Calls that lend so many readers to holder 2, one by one, all merged into the lease with the next number."""
+    yield 'delegate %d 2 %d' % (lender, due)
+    for other in range(number + 1, number + readers):
+        yield 'delegate %d 2 %d' % (lender, due)
+        yield 'merge %d %d' % (number, other)
+
+
+def deep_calls(deepest, due):
+    """Opens a resource, and lends from each lease to the next as many readers as that is to lend on and one more."""
+    yield 'open 1 1'
+    lender, number = 1, 2
+    for readers in range(deepest, 0, -1):
+        yield from lend_readers(lender, number, readers, due)
+        lender, number = number, number + readers
+
+
+def lapse_calls(resources):
+    """Opens resources and lends two leases of each from each other, until days that rise with the resource."""
+    for resource in range(1, resources + 1):
+        first, day = resource * 3 - 2, resource * 2
+        yield 'open %d %d' % (resource, resource)
+        yield 'delegate %d 998 %d' % (first, day)
+        yield 'delegate %d 999 %d' % (first + 1, day - resource % 2)
+
+
+def family_lines():
+    """Large and deep families, and many small ones, closed by recalls, hand-ins and days."""
+    asked = ['standing 1 1', 'standing 1 2', 'count', 'issued']
+    for close in ['day 9', 'recall 1', 'hand_in 1']:
+        yield 'office counting 1024 65535 65535 65535'
+        yield '; '.join(['open 1 1', *['delegate 1 2 9'] * 1024])
+        yield from [*asked, close, *asked, close]
+    for close in ['recall 1', 'hand_in 2', 'day 9', 'recall 1000']:
+        yield 'office counting 1024 65535 65535 65535'
+        yield '; '.join(deep_calls(44, 9))
+        yield from [*asked, close, *asked, close]
+    days = ['day %d' % day for day in range(1, 701, 50)]
+    recalls = ['recall %d' % first for first in range(1, 1024, 3)]
+    for close in [['day 340'], days, recalls]:
+        yield 'office trees 1024 65535 65535 65535'
+        yield '; '.join(lapse_calls(342))
+        yield from [*asked, '; '.join([*close, 'count']), *asked, 'standing 7 7']
+
+
+MODES = {'numbers': number_lines, 'readers': reader_lines, 'rows': row_lines, 'families': family_lines}
 
 
 def main():
@@ -323,8 +453,8 @@ def main():
     if len(sys.argv) == 2 and sys.argv[1] in MODES:
         sys.stdout.writelines(line + '\n' for line in MODES[sys.argv[1]]())
         return
-    seed, offices, calls = map(int, sys.argv[1:])
-    lines = list(random_lines(seed, offices, calls))
+    seed, offices, count = map(int, sys.argv[1:])
+    lines = list(random_lines(seed, offices, count))
     sys.stdout.buffer.write(b'\n'.join(lines) + (b'' if seed % 2 else b'\n'))
 
 

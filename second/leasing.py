@@ -2,10 +2,12 @@
 """The program `leasing` once more, by the rules of docs/OFFICE.md: shares no code and no representation with crates/.
 
 A lease is an object that knows its lender and the leases that it lent, and the ledger is a dictionary of the live ones. A
-layer wraps an office. A refusal is an exception, which gains a level in each office that it passes through. Reads calls
-from standard input and prints what `leasing` should print.
+layer wraps an office. A refusal is an exception, which gains a level in each office that it passes through. The calls
+that stand over any office are functions that make calls to one. Reads calls and lists of calls from standard input and
+prints what `leasing` should print.
 """
 import functools
+import re
 import sys
 
 sys.dont_write_bytecode = True
@@ -15,6 +17,9 @@ MOST_ROWS = 1024
 MOST_NUMBERS = 60000
 LAST_DAY = 9999
 NEVER = 10000
+
+# A word has none of the characters that Unicode counts as white space.
+WORD = re.compile('[^\t-\r \x85\xa0\u1680\u2000-\u200a\u2028\u2029\u202f\u205f\u3000]+')
 
 REASONS = {
     1: 'the resource is not from 1 to 999',
@@ -38,13 +43,18 @@ REASONS = {
 }
 
 # How many numbers each call has.
-CHANGES = {'open': 2, 'delegate': 3, 'yield': 1, 'merge': 2, 'assign': 2, 'set_day': 1}
-QUESTIONS = {'count': 0, 'issued': 0, 'today': 0, 'lease': 1, 'lease_at': 1}
+SWEEPS = {'recall': 1, 'day': 1, 'hand_in': 1}
+CHANGES = {'open': 2, 'delegate': 3, 'yield': 1, 'merge': 2, 'assign': 2, 'set_day': 1, **SWEEPS}
+QUESTIONS = {'count': 0, 'issued': 0, 'today': 0, 'lease': 1, 'lease_at': 1, 'standing': 2}
 CALLS = {**CHANGES, **QUESTIONS}
+
+# What is said in a list of the leases that each call closed.
+CLOSED_BY = {'yield': 'yielded', 'merge': 'merged', 'recall': 'recalled', 'hand_in': 'recalled', 'day': 'lapsed'}
 
 EXPECTED = ('expected: office KIND ROWS QUOTA TERM CHAIN (KIND is trees or counting), or a call to that office: '
             'open RESOURCE HOLDER, delegate LENDER HOLDER DUE, yield LEASE, merge A B, assign LEASE HOLDER, set_day DAY, '
-            'count, issued, today, lease NUMBER or lease_at POSITION')
+            'recall LEASE, day DAY, hand_in LEASE, standing RESOURCE HOLDER, count, issued, today, lease NUMBER, '
+            'lease_at POSITION, or some of these with semicolons between them')
 
 
 class Refusal(Exception):
@@ -73,6 +83,13 @@ def share_text(kind, share):
     return kind.text(share)
 
 
+def join(kind, a, b):
+    """The join of two shares of one resource."""
+    joined = kind.join(a, b)
+    assert joined is not None, 'shares of one resource always join'
+    return joined
+
+
 class Lease:
     """A live lease. Its lender is another lease, or None, the house; `lent` has the live leases that it lent."""
 
@@ -91,11 +108,16 @@ class Lease:
             above, lease = above + 1, lease.lender
         return above
 
+    def under(self):
+        """The leases under this one: those that it lent, and so on for each that is found."""
+        found = list(self.lent)
+        for lease in found:
+            found += lease.lent
+        return found
+
     def gain(self, share):
         """Joins a share to this lease's own."""
-        joined = self.kind.join(self.share, share)
-        assert joined is not None, 'shares of one resource always join'
-        self.share = joined
+        self.share = join(self.kind, self.share, share)
 
     def __str__(self):
         """The lease as it is printed."""
@@ -226,6 +248,7 @@ class Layer:
         """Wraps an office."""
         self.limit = limit
         self.below = below
+        self.kind = below.kind
 
     def ask(self, call, *numbers):
         """Objects to the call or passes it down, and passes a refusal up with a level more."""
@@ -271,6 +294,47 @@ class Chain(Layer):
             lease.number == numbers[0] and lease.height() >= self.limit for lease in self.roll())
 
 
+def close(office, leases):
+    """Yields some leases, from the highest number down, and answers how many."""
+    for lease in sorted(leases, key=lambda lease: lease.number, reverse=True):
+        office.ask('yield', lease.number)
+    return len(leases)
+
+
+def hand_in(office, number):
+    """Closes a lease and all under it, or nothing if it isn't live."""
+    found = [lease for lease in office.roll() if lease.number == number]
+    return close(office, found + [below for lease in found for below in lease.under()])
+
+
+def recall(office, number):
+    """Closes a lease and all under it."""
+    refuse(all(lease.number != number for lease in office.roll()), 6)
+    return hand_in(office, number)
+
+
+def day(office, new):
+    """Closes what falls due by a day, and then moves today on to it."""
+    refuse(not office.ask('today') <= new <= LAST_DAY, 13)
+    closed = close(office, [lease for lease in office.roll() if lease.due <= new])
+    office.ask('set_day', new)
+    return closed
+
+
+def standing(office, resource, holder):
+    """What a holder's shares of a resource join to."""
+    shares = [lease.share for lease in office.roll() if (lease.resource, lease.holder) == (resource, holder)]
+    return functools.reduce(functools.partial(join, office.kind), shares, office.kind.empty)
+
+
+OVER_ANY_OFFICE = {'recall': recall, 'day': day, 'hand_in': hand_in, 'standing': standing}
+
+
+def make(office, call, *numbers):
+    """Makes a call to an office or over it."""
+    return OVER_ANY_OFFICE[call](office, *numbers) if call in OVER_ANY_OFFICE else office.ask(call, *numbers)
+
+
 def set_up(name, rows, quota, term, chain):
     """A new office: three layers on a ledger."""
     return Quota(quota, Term(term, Chain(chain, Ledger(sharing.KINDS[name], rows))))
@@ -285,31 +349,58 @@ def read_number(word):
     return int(digits) if len(digits) <= 5 and int(digits) <= 65535 else None
 
 
-def read_line(line):
-    """The words of an office or a call, with its numbers read; or None for a line that is neither."""
-    try:
-        words = line.decode('utf-8').split()
-    except UnicodeDecodeError:
-        return None
-    if words[:1] == ['office'] and len(words) == 6 and words[1] in sharing.KINDS:
-        names = words[:2]
-    elif words and CALLS.get(words[0]) == len(words) - 1:
-        names = words[:1]
-    else:
-        return None
-    numbers = [read_number(word) for word in words[len(names):]]
+def read_numbers(names, words):
+    """Some names followed by the numbers that the words are; or None if one of these is no number."""
+    numbers = [read_number(word) for word in words]
     return None if None in numbers else names + numbers
 
 
+def read_office(text):
+    """The words of a line that sets up an office, or None."""
+    words = WORD.findall(text)
+    if words[:1] == ['office'] and len(words) == 6 and words[1] in sharing.KINDS:
+        return read_numbers(words[:2], words[2:])
+    return None
+
+
+def read_call(text):
+    """The words of a call, or None."""
+    words = WORD.findall(text)
+    if words and CALLS.get(words[0]) == len(words) - 1:
+        return read_numbers(words[:1], words[1:])
+    return None
+
+
+def read_calls(text):
+    """The calls of a line, of which a call by itself has one; or None if a piece of the line is no call."""
+    calls = [read_call(piece) for piece in text.split(';')]
+    return None if None in calls else calls
+
+
 def answer(office, call, *numbers):
-    """What the office answers to a call, in words."""
+    """What is answered to a call, in words."""
     try:
-        result = office.ask(call, *numbers)
+        result = make(office, call, *numbers)
     except Refusal as refusal:
         return str(refusal)
+    if call == 'standing':
+        return 'share ' + share_text(office.kind, result)
     if call in QUESTIONS:
         return str(result)
+    if call in SWEEPS:
+        return 'granted, %d closed' % result
     return 'granted' if result is None else 'granted, lease %d' % result
+
+
+def answer_list(office, calls):
+    """What the calls of a list closed, in words; a refused call closes nothing."""
+    closed = dict.fromkeys(CLOSED_BY.values(), 0)
+    for call in calls:
+        before = office.ask('count')
+        answer(office, *call)
+        if call[0] in CLOSED_BY:
+            closed[CLOSED_BY[call[0]]] += before - office.ask('count')
+    return 'closed: ' + ', '.join('%d %s' % (number, how) for how, number in closed.items())
 
 
 def print_roll(office):
@@ -319,20 +410,33 @@ def print_roll(office):
         print('    %s' % lease)
 
 
+def answer_office(name, rows, quota, term, chain):
+    """Prints that an office is set up, and gives it back."""
+    print('an office of %s, %d rows, quota %d, term %d, chain %d' % (name, min(rows, MOST_ROWS), quota, term, chain))
+    return set_up(name, rows, quota, term, chain)
+
+
+def answer_calls(office, calls):
+    """Prints the answer to a call or to a list of calls, with the roll but for a single question."""
+    print('; '.join(' '.join(map(str, call)) for call in calls))
+    print('  ' + (answer_list(office, calls) if len(calls) > 1 else answer(office, *calls[0])))
+    if len(calls) > 1 or calls[0][0] in CHANGES:
+        print_roll(office)
+
+
 def answer_line(office, line):
     """Prints the answer to a line, and gives back the office that the next line is for."""
-    words = read_line(line)
-    if words is None or (office is None and words[0] != 'office'):
+    try:
+        text = line.decode('utf-8')
+    except UnicodeDecodeError:
+        text = ''
+    words, calls = read_office(text), read_calls(text)
+    if words is not None:
+        return answer_office(*words[1:])
+    if calls is None or office is None:
         print(EXPECTED)
-    elif words[0] == 'office':
-        name, rows, quota, term, chain = words[1:]
-        print('an office of %s, %d rows, quota %d, term %d, chain %d' % (name, min(rows, MOST_ROWS), quota, term, chain))
-        return set_up(*words[1:])
     else:
-        print(*words)
-        print('  ' + answer(office, *words))
-        if words[0] in CHANGES:
-            print_roll(office)
+        answer_calls(office, calls)
     return office
 
 

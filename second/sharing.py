@@ -11,6 +11,7 @@ MOST = 4095
 
 
 class Trees:
+    empty = frozenset()
     whole = frozenset(range(WHOLE))
 
     @staticmethod
@@ -47,6 +48,7 @@ class Trees:
 
 
 class Counting:
+    empty = ('e', 0)
     whole = ('s', 0)
 
     @staticmethod

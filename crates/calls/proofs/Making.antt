@@ -1,8 +1,9 @@
 -- Calls made one after another.
-use Rattle.std.proofs.Common.{◌≡◌, ◌≤◌, List, [], ◌∷◌, ◌++◌, map, refl, sym, ap, ◌∙◌, reverse, arith}
+use Rattle.std.proofs.Common.{◌≡◌, ◌+◌, ◌≤◌, List, [], ◌∷◌, ◌++◌, map, refl, sym, ap, ◌∙◌, reverse, arith}
 use Rattle.std.proofs.lemmas.List.{map-append, reverse-append}
 use Rattle.shares.specs.Kind.{Kind}
 use Rattle.lending.specs.declared.lease.Lease.{Lease}
+use Rattle.lending.specs.Limits.{most_rows, last_number}
 use Rattle.lending.specs.Office.{State}
 use Rattle.lending.specs.Outcome as office
 use Rattle.lending.specs.Perform.{Does}
@@ -49,7 +50,7 @@ module _ {S : Type 0} (K : Kind S) where
       }
 
   -- what some calls closed was live when they began, or was issued by them
-  pub few_closed : (s t : State S) (rows rows' : List (Lease S)) → Lawful s rows → Lawful t rows' → (calls : List Call) (tallies : Tallies) → Made K s calls tallies t → all_closed tallies ≤ 61024
+  pub few_closed : (s t : State S) (rows rows' : List (Lease S)) → Lawful s rows → Lawful t rows' → (calls : List Call) (tallies : Tallies) → Made K s calls tallies t → all_closed tallies ≤ most_rows + last_number
   few_closed s t rows rows' l l' calls tallies made =
       let h = list_counts K s t made.history made.leads in
       let a = made.yields in let b = made.merges in let c = made.recalls in let d = made.lapses in

@@ -1,5 +1,5 @@
-// Calls to an office as values: how they are written and read, and how they are made, of which each carries the lending
-// promise as the calls of `desk` do.
+// Calls to an office as values: how they are written and read, and how they are made, one by one or a whole list, with the
+// lending promise on each as on the calls of `desk`.
 #![tactic(auto)]
 
 mod call;

@@ -82,6 +82,8 @@ fn answer_list<S: Printed, O: Office<Kind = S>>(
         recalled,
         lapsed,
     } = make_all(office, calls);
-    println!(rt; "  closed: {yielded} yielded, {merged} merged, {recalled} recalled, {lapsed} lapsed")?;
+    println!(rt;
+        "  closed: {yielded} yielded, {merged} merged, {recalled} recalled, {lapsed} lapsed"
+    )?;
     print_roll(rt, office)
 }

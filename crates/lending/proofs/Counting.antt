@@ -1,5 +1,5 @@
--- What calls close by their answers has left the roll, but for what was issued. It is so of every state, also of one that no
--- calls reach.
+-- The leases that calls close by their answers were live when the calls began, or were issued by them, and are live no more.
+-- It is so of every state, also of one that no calls reach.
 use Rattle.std.proofs.Common.{◌≡◌, ℕ, ◌+◌, ◌≤◌, Bool, true, false, cond, not, eqb, leb, List, [], ◌∷◌, length, Some, sym, refl, ap, ◌∙◌, subst, subst₂, arith, length-append}
 use Rattle.std.specs.List.{filter, list_any}
 use mathlib.Core.Option as maybe
@@ -45,7 +45,7 @@ module _ {S : Type 0} where
   closed ls n l e = subst (λ (k : ℕ). length (close k ls) + 1 ≤ length ls) (sym (find_in ls n l e).1) (one_less ls n l e)
 
 module _ {S : Type 0} (K : Kind S) where
-  -- k leases were closed from s on: they have left the roll, but for those that were issued
+  -- the k leases that were closed from s on, with those live now, are no more than those live then and those issued since
   abbrev pub Counts : State S → ℕ → List (Lease S) → ℕ → Type 0
   Counts s k roll issued = k + length roll + s.core.issued ≤ length s.core.roll + issued
 

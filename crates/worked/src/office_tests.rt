@@ -1,6 +1,7 @@
 use crate::share_tests::prints;
+use calls::{Call, Tallies, make, make_all};
 use chain::Chain;
-use desk::{assign, delegate, lease_at, merge, open, set_day, yield_lease};
+use desk::{Slip, lease_at, may_write, standing, yield_lease};
 use ledger::Ledger;
 use lending::{Lease, Refusal};
 use office::Office;
@@ -29,6 +30,31 @@ fn refusal<T: Drop>(answer: Result<T, Refusal>) -> Option<(u8, u8)> {
         .map(|refusal| (refusal.reason.number(), refusal.level))
 }
 
+// Calls as values.
+fn open(resource: u16, holder: u16) -> Call {
+    Call::Open { resource, holder }
+}
+
+fn delegate(lender: u16, holder: u16, due: u16) -> Call {
+    Call::Delegate {
+        lender,
+        holder,
+        due,
+    }
+}
+
+fn merge(a: u16, b: u16) -> Call {
+    Call::Merge { a, b }
+}
+
+fn recall(lease: u16) -> Call {
+    Call::Recall { lease }
+}
+
+fn day(day: u16) -> Call {
+    Call::Day { day }
+}
+
 // Whether a position of the roll has a lease with this number and this text of its share.
 fn stands<S: Printed, O: Office<Kind = S>>(
     office: &O,
@@ -40,21 +66,35 @@ fn stands<S: Printed, O: Office<Kind = S>>(
         && prints(lease.share, text))
 }
 
-// Ten calls to a pile of three layers: the worked book, with yields where it has a day and a recall.
+// Ten calls to a pile of three layers: the worked book.
 fn ten_calls<S: Printed, O: Office<Kind = S> + Drop>(rt: &impl Abort, below: O) {
     let mut office = Quota::over(Term::over(Chain::over(below, 2), 30), 64);
-    assert_eq!(rt; open(&mut office, 7, 1), Ok(1));
-    assert_eq!(rt; delegate(&mut office, 1, 2, 20), Ok(2));
-    assert_eq!(rt; delegate(&mut office, 2, 3, 10), Ok(3));
-    assert_eq!(rt; refusal(delegate(&mut office, 3, 4, 5)), Some((23, 2)));
+    let _ = make_all(
+        &mut office,
+        &[open(7, 1), delegate(1, 2, 20), delegate(2, 3, 10)],
+    );
+    assert_eq!(rt;
+        refusal(make(&mut office, delegate(3, 4, 5))),
+        Some((23, 2))
+    );
     assert_eq!(rt; refusal(yield_lease(&mut office, 2)), Some((9, 3)));
-    assert_eq!(rt; refusal(set_day(&mut office, 10)), Some((14, 3)));
-    assert!(rt; yield_lease(&mut office, 3).is_ok());
-    assert!(rt; set_day(&mut office, 10).is_ok());
-    assert!(rt; assign(&mut office, 2, 1).is_ok());
-    assert_eq!(rt; refusal(delegate(&mut office, 1, 5, 41)), Some((22, 1)));
-    assert_eq!(rt; delegate(&mut office, 1, 5, 40), Ok(4));
-    assert!(rt; yield_lease(&mut office, 2).is_ok());
+    let lapsed = make_all(
+        &mut office,
+        &[
+            day(10),
+            Call::Assign {
+                lease: 2,
+                holder: 1,
+            },
+        ],
+    );
+    assert_eq!(rt; lapsed.lapsed, 1);
+    assert_eq!(rt;
+        refusal(make(&mut office, delegate(1, 5, 41))),
+        Some((22, 1))
+    );
+    let recalled = make_all(&mut office, &[delegate(1, 5, 40), recall(2)]);
+    assert_eq!(rt; recalled.recalled, 1);
     assert!(rt; stands(&office, 0, 1, b"((10)1)"));
     assert!(rt; stands(&office, 1, 4, b"((01)0)"));
 }
@@ -69,12 +109,16 @@ fn the_worked_calls_come_out(rt: HostRuntime) {
 
 // Two leases of one holder are merged, and what both lent comes back to the one that stays.
 fn merge_and_give_back<S: Printed, O: Office<Kind = S> + Drop>(rt: &impl Abort, mut office: O) {
-    let _ = open(&mut office, 7, 1);
-    let _ = delegate(&mut office, 1, 2, 20);
-    let _ = delegate(&mut office, 1, 2, 20);
-    let _ = delegate(&mut office, 2, 3, 10);
-    let _ = delegate(&mut office, 3, 4, 10);
-    assert!(rt; merge(&mut office, 2, 3).is_ok());
+    let lent = [
+        open(7, 1),
+        delegate(1, 2, 20),
+        delegate(1, 2, 20),
+        delegate(2, 3, 10),
+        delegate(3, 4, 10),
+    ];
+    let _ = make_all(&mut office, &lent);
+    let merged = make_all(&mut office, &[merge(2, 3)]);
+    assert_eq!(rt; merged.merged, 1);
     assert_eq!(rt; refusal(yield_lease(&mut office, 2)), Some((9, 0)));
     assert!(rt; yield_lease(&mut office, 5).is_ok());
     assert_eq!(rt; refusal(yield_lease(&mut office, 2)), Some((9, 0)));
@@ -90,14 +134,77 @@ fn merged_leases_come_back_whole(rt: HostRuntime) {
     merge_and_give_back(&rt, Ledger::new(&mut rows));
 }
 
+// The editor, holder 1, lends two shares to holder 2, who lends on from the second, and one to transcriber 4. The two are
+// merged, and the lease that has both is recalled. The editor may not write before the transcriber's share is back too.
+fn merge_and_recall<S: Printed, O: Office<Kind = S> + Drop>(rt: &impl Abort, mut office: O) {
+    let lent = [
+        open(7, 1),
+        delegate(1, 2, 20),
+        delegate(1, 2, 20),
+        delegate(1, 4, 30),
+        delegate(3, 3, 10),
+    ];
+    let _ = make_all(&mut office, &lent);
+    let closed = make_all(&mut office, &[merge(2, 3), recall(2)]);
+    assert_eq!(rt;
+        closed,
+        Tallies {
+            yielded: 0,
+            merged: 1,
+            recalled: 2,
+            lapsed: 0
+        }
+    );
+    assert!(rt; stands(&office, 0, 1, b"(((10)1)1)"));
+    assert!(rt; !may_write(&office, 7, 1));
+    assert!(rt; !may_write(&office, 7, 4));
+    assert_eq!(rt; Slip::draw(4).hand_in(&mut office), 1);
+    assert_eq!(rt; Slip::draw(4).hand_in(&mut office), 0);
+    assert!(rt; stands(&office, 0, 1, b"1"));
+    assert!(rt; may_write(&office, 7, 1));
+}
+
+#[test]
+fn the_editor_is_no_sole_holder_while_a_share_is_out(rt: HostRuntime) {
+    let mut rows = [free_row(); 8];
+    merge_and_recall(&rt, Ledger::new(&mut rows));
+}
+
+// A day closes what falls due by it, with all that is under it, and a refused recall or day closes nothing.
+fn days_go_by<S: Printed, O: Office<Kind = S> + Drop>(rt: &impl Abort, mut office: O) {
+    let lent = [
+        open(7, 1),
+        delegate(1, 2, 20),
+        delegate(2, 3, 10),
+        delegate(1, 3, 30),
+        day(9),
+    ];
+    assert_eq!(rt; make_all(&mut office, &lent), Tallies::default());
+    assert_eq!(rt; refusal(make(&mut office, day(8))), Some((13, 0)));
+    assert_eq!(rt; refusal(make(&mut office, day(10000))), Some((13, 0)));
+    assert_eq!(rt; refusal(make(&mut office, recall(5))), Some((6, 0)));
+    assert_eq!(rt; make_all(&mut office, &[day(20)]).lapsed, 2);
+    assert!(rt; stands(&office, 0, 1, b"((10)1)"));
+    assert!(rt; stands(&office, 1, 4, b"((01)0)"));
+    assert!(rt; prints(standing(&office, 7, 3), b"((01)0)"));
+    assert!(rt; prints(standing(&office, 7, 2), b"0"));
+    assert_eq!(rt; make_all(&mut office, &[day(9999), recall(1)]).recalled, 1);
+}
+
+#[test]
+fn leases_lapse(rt: HostRuntime) {
+    let mut rows = [free_row(); 8];
+    days_go_by(&rt, Ledger::new(&mut rows));
+}
+
 #[test]
 fn no_row_is_free(rt: HostRuntime) {
     let mut rows = [free_row(); 1];
     let mut office = Ledger::new(&mut rows);
-    assert_eq!(rt; open(&mut office, 7, 1), Ok(1));
-    assert_eq!(rt; refusal(open(&mut office, 8, 1)), Some((5, 0)));
+    assert_eq!(rt; desk::open(&mut office, 7, 1), Ok(1));
+    assert_eq!(rt; refusal(desk::open(&mut office, 8, 1)), Some((5, 0)));
     assert!(rt; yield_lease(&mut office, 1).is_ok());
-    assert_eq!(rt; open(&mut office, 8, 1), Ok(2));
+    assert_eq!(rt; desk::open(&mut office, 8, 1), Ok(2));
     let back = office.into_rows();
     assert_eq!(rt; back.len(), 1);
     assert_eq!(rt; back[0].number, 2);
@@ -108,8 +215,7 @@ fn rows_come_back_from_under_three_layers(rt: HostRuntime) {
     let mut rows = [free_row(); 8];
     let ledger = Ledger::new(&mut rows);
     let mut office = Quota::over(Term::over(Chain::over(ledger, 2), 30), 64);
-    assert_eq!(rt; open(&mut office, 7, 1), Ok(1));
-    assert_eq!(rt; delegate(&mut office, 1, 2, 20), Ok(2));
+    let _ = make_all(&mut office, &[open(7, 1), delegate(1, 2, 20)]);
     let back = office.into_below().into_below().into_below().into_rows();
     assert_eq!(rt; back.len(), 8);
     assert_eq!(rt; back[0].number, 1);
