@@ -1,0 +1,50 @@
+-- The lines of a printout. Their fields are parted by one blank, and each line ends with a newline.
+use Rattle.std.specs.Prelude.{◌≡◌, ℕ, Bool, if◌then◌else◌, List, ◌++◌, slice_get, codes, Some, None, Option}
+use Rattle.std.specs.Fmt.{decimal}
+use Rattle.std.specs.Option.{unwrap_or}
+use Rattle.shares.specs.Kind.{Kind}
+use Rattle.lending.specs.declared.lease.Lease.{Lease}
+use Rattle.lending.specs.Above.{standing_of}
+use Rattle.printout.specs.declared.totals.Totals.{Totals}
+
+-- a number in decimal, and a blank
+abbrev pub field : ℕ → List ℕ
+field n = decimal n ++ codes " "
+
+-- the level of a refusal, or `-` if it has none
+abbrev pub level_text : Option ℕ → List ℕ
+level_text None = codes "-"
+level_text (Some level) = decimal level
+
+-- the line of a refused event: `!` event number level
+abbrev pub refusal_line : ℕ → ℕ → Option ℕ → List ℕ
+refusal_line event number level = codes "! " ++ field event ++ field number ++ level_text level ++ codes "\n"
+
+-- the line of the totals: `=` issued live yielded merged recalled lapsed
+abbrev pub total_line : Totals → List ℕ
+total_line t = codes "= " ++ field t.issued ++ field t.live ++ field t.yielded ++ field t.merged ++ field t.recalled ++ decimal t.lapsed ++ codes "\n"
+
+module _ {S : Type 0} where
+  -- the holder of a lease may write its resource: its standing there is the whole
+  abbrev pub writes : Kind S → List (Lease S) → Lease S → Bool
+  writes K roll l = K.same (unwrap_or (standing_of K roll l.resource l.holder) K.empty) K.whole
+
+  -- `w` if the holder may write, else `r`
+  abbrev pub letter : Bool → List ℕ
+  letter may_write = if may_write then codes "w" else codes "r"
+
+  -- the line of a lease of a roll: number resource holder lender due `w` or `r` text
+  abbrev pub lease_line : Kind S → (S → List ℕ) → List (Lease S) → Lease S → List ℕ
+  lease_line K text roll l = lettered_line text (letter (writes K roll l)) l
+
+  -- the same line by its letter
+  abbrev pub lettered_line : (S → List ℕ) → List ℕ → Lease S → List ℕ
+  lettered_line text letter l = field l.number ++ field l.resource ++ field l.holder ++ field l.lender ++ field l.due ++ letter ++ codes " " ++ text l.share ++ codes "\n"
+
+  -- the line of the lease at a position of the roll, if there is one
+  abbrev pub line_at : Kind S → (S → List ℕ) → List (Lease S) → ℕ → Option (List ℕ)
+  line_at K text roll position = line_of (slice_get roll position)
+    where
+      line_of : Option (Lease S) → Option (List ℕ)
+      line_of None = None
+      line_of (Some l) = Some (lease_line K text roll l)

@@ -1,0 +1,45 @@
+// A line under way.
+ghost use Rattle.std.specs.Prelude.{◌≡◌, ◌+◌, ◌<◌, ◌≤◌, ◌++◌, length, codes, Some};
+ghost use Rattle.arrayvec.specs.ArrayString.{array_string_len};
+ghost use Rattle.printout.specs.Answers.{answered, left};
+
+use crate::reason::LineReason;
+use arrayvec::ArrayString;
+use itoa::{Buffer, Integer};
+
+// The bytes of a line lie in the value itself, since an office has no heap. No line has more than 256, so that there is always
+// room. (`write!` into it would read better, but the contract of a `Display` doesn't say that it never fails.)
+pub(crate) type Line = ArrayString<256>;
+
+// Writes a number in decimal, and a blank.
+pub(crate) fn write_field<I: Integer>(line: &mut Line, n: I)
+    requires { array_string_len line.old + I.MAX_STR_LEN < 256 }
+    ensures text { line.new.bytes ≡ line.old.bytes ++ (I.text n ++ codes " ") }
+    ensures short { array_string_len line.new ≤ array_string_len line.old + I.MAX_STR_LEN + 1 }
+{
+    write_number(line, n);
+    line.push_str(" ");
+}
+
+// Writes a number in decimal.
+pub(crate) fn write_number<I: Integer>(line: &mut Line, n: I)
+    requires { array_string_len line.old + I.MAX_STR_LEN ≤ 256 }
+    ensures text { line.new.bytes ≡ line.old.bytes ++ I.text n }
+    ensures short { array_string_len line.new ≤ array_string_len line.old + I.MAX_STR_LEN }
+{
+    let mut buffer = Buffer::new();
+    line.push_str(buffer.format(n));
+}
+
+// Copies a line to the front of a space.
+pub(crate) fn put(line: &Line, space: &mut [u8]) -> Result<usize, LineReason>
+    ensures answers { result ≡ answered (Some line.now.bytes) space.old }
+    ensures leaves { space.new ≡ left (Some line.now.bytes) space.old }
+{
+    let length = line.len();
+    if length > space.len() {
+        return Err(LineReason::LineTooLong);
+    }
+    space[..length].copy_from_slice(line.as_str().as_bytes());
+    Ok(length)
+}
