@@ -1,7 +1,7 @@
 -- The lines of a printout. Their fields are parted by one blank, and each line ends with a newline.
 use Rattle.std.specs.Prelude.{◌≡◌, ℕ, Bool, if◌then◌else◌, List, ◌++◌, slice_get, codes, Some, None, Option}
 use Rattle.std.specs.Fmt.{decimal}
-use Rattle.std.specs.Option.{unwrap_or}
+use Rattle.std.specs.Option.{option_map, unwrap_or}
 use Rattle.shares.specs.Kind.{Kind}
 use Rattle.lending.specs.declared.lease.Lease.{Lease}
 use Rattle.lending.specs.Above.{standing_of}
@@ -24,27 +24,25 @@ refusal_line event number level = codes "! " ++ field event ++ field number ++ l
 abbrev pub total_line : Totals → List ℕ
 total_line t = codes "= " ++ field t.issued ++ field t.live ++ field t.yielded ++ field t.merged ++ field t.recalled ++ decimal t.lapsed ++ codes "\n"
 
+-- `w` if the holder may write, else `r`
+abbrev pub letter : Bool → List ℕ
+letter may_write = if may_write then codes "w" else codes "r"
+
 module _ {S : Type 0} where
   -- the holder of a lease may write its resource: its standing there is the whole
   abbrev pub writes : Kind S → List (Lease S) → Lease S → Bool
   writes K roll l = K.same (unwrap_or (standing_of K roll l.resource l.holder) K.empty) K.whole
 
-  -- `w` if the holder may write, else `r`
-  abbrev pub letter : Bool → List ℕ
-  letter may_write = if may_write then codes "w" else codes "r"
+  -- a lease by the text of shares and by whether its holder may write
+  abbrev pub lease_text : (S → List ℕ) → Lease S → Bool → List ℕ
+  lease_text text l may_write =
+      field l.number ++ field l.resource ++ field l.holder ++ field l.lender ++ field l.due
+      ++ letter may_write ++ codes " " ++ text l.share ++ codes "\n"
 
-  -- the line of a lease of a roll: number resource holder lender due `w` or `r` text
+  -- the line of a lease of the roll: number resource holder lender due, `w` or `r`, and the text of its share
   abbrev pub lease_line : Kind S → (S → List ℕ) → List (Lease S) → Lease S → List ℕ
-  lease_line K text roll l = lettered_line text (letter (writes K roll l)) l
-
-  -- the same line by its letter
-  abbrev pub lettered_line : (S → List ℕ) → List ℕ → Lease S → List ℕ
-  lettered_line text letter l = field l.number ++ field l.resource ++ field l.holder ++ field l.lender ++ field l.due ++ letter ++ codes " " ++ text l.share ++ codes "\n"
+  lease_line K text roll l = lease_text text l (writes K roll l)
 
   -- the line of the lease at a position of the roll, if there is one
   abbrev pub line_at : Kind S → (S → List ℕ) → List (Lease S) → ℕ → Option (List ℕ)
-  line_at K text roll position = line_of (slice_get roll position)
-    where
-      line_of : Option (Lease S) → Option (List ℕ)
-      line_of None = None
-      line_of (Some l) = Some (lease_line K text roll l)
+  line_at K text roll position = option_map (lease_line K text roll) (slice_get roll position)

@@ -3,10 +3,12 @@
 #![tactic(auto)]
 
 mod events;
+mod leases;
 mod line;
 mod reason;
 mod totals;
 
 pub use events::refusal_line;
+pub use leases::lease_line;
 pub use reason::LineReason;
-pub use totals::Totals;
+pub use totals::{Totals, total_line};
