@@ -10,11 +10,11 @@ number_of NoSuchPosition = 15
 number_of LineTooLong = 31
 
 -- 15 where there is no line to be written, else 31 where it is longer than the space, else its length
-abbrev pub answered : Option (List ℕ) → List ℕ → Result ℕ LineReason
-answered None space = Err NoSuchPosition
-answered (Some line) space = if nat_le (length line) (length space) then Ok (length line) else Err LineTooLong
+abbrev pub answer_of : Option (List ℕ) → List ℕ → Result ℕ LineReason
+answer_of None space = Err NoSuchPosition
+answer_of (Some line) space = if nat_le (length line) (length space) then Ok (length line) else Err LineTooLong
 
 -- the space with the line at its front, or as it was
-abbrev pub left : Option (List ℕ) → List ℕ → List ℕ
-left None space = space
-left (Some line) space = if nat_le (length line) (length space) then in_front line space else space
+abbrev pub space_after : Option (List ℕ) → List ℕ → List ℕ
+space_after None space = space
+space_after (Some line) space = if nat_le (length line) (length space) then in_front line space else space

@@ -1,10 +1,12 @@
 -- The lines of a printout. Their fields are parted by one blank, and each line ends with a newline.
-use Rattle.std.specs.Prelude.{◌≡◌, ℕ, Bool, if◌then◌else◌, List, ◌++◌, slice_get, codes, Some, None, Option}
-use Rattle.std.specs.Fmt.{decimal}
+use Rattle.std.specs.Prelude.{ℕ, ◌≤◌, Bool, if◌then◌else◌, List, ◌++◌, length, slice_get, codes, decimal, Some, None, Option}
 use Rattle.std.specs.Option.{option_map, unwrap_or}
 use Rattle.shares.specs.Kind.{Kind}
 use Rattle.lending.specs.declared.lease.Lease.{Lease}
+use Rattle.lending.specs.Office.{State}
 use Rattle.lending.specs.Above.{standing_of}
+use Rattle.lending.specs.Promise.{Live}
+use Rattle.lending.specs.Effects.{MayWrite}
 use Rattle.printout.specs.declared.totals.Totals.{Totals}
 
 -- a number in decimal, and a blank
@@ -46,3 +48,11 @@ module _ {S : Type 0} where
   -- the line of the lease at a position of the roll, if there is one
   abbrev pub line_at : Kind S → (S → List ℕ) → List (Lease S) → ℕ → Option (List ℕ)
   line_at K text roll position = option_map (lease_line K text roll) (slice_get roll position)
+
+  -- No live lease has a line of more than 219 bytes.
+  abbrev pub LinesAreShort : Kind S → (S → List ℕ) → State S → Type 0
+  LinesAreShort K text s = (l : Lease S) → Live s l → length (lease_line K text s.core.roll l) ≤ 219
+
+  -- The line of each live lease has a `w` exactly if its holder may write.
+  abbrev pub LettersTell : Kind S → State S → Type 0
+  LettersTell K s = (l : Lease S) → Live s l → MayWrite K s l.resource l.holder (writes K s.core.roll l)

@@ -1,6 +1,6 @@
 ghost use Rattle.std.specs.Prelude.{◌≡◌, ◌+◌, ◌≤◌, ◌++◌, length, codes, Some};
 ghost use Rattle.arrayvec.specs.ArrayString.{array_string_len};
-ghost use Rattle.printout.specs.Answers.{answered, left};
+ghost use Rattle.printout.specs.Answers.{answer_of, space_after};
 ghost use Rattle.printout.specs.Lines.{refusal_line, level_text};
 
 use crate::line::{Line, put, write_field, write_number};
@@ -13,8 +13,8 @@ pub fn refusal_line(
     level: Option<u8>,
     space: &mut [u8],
 ) -> Result<usize, LineReason>
-    ensures answers { result ≡ answered (Some (refusal_line event number level)) space.old }
-    ensures leaves { space.new ≡ left (Some (refusal_line event number level)) space.old }
+    ensures answers { result ≡ answer_of (Some (refusal_line event number level)) space.old }
+    ensures leaves { space.new ≡ space_after (Some (refusal_line event number level)) space.old }
     ensures short { length (refusal_line event number level) ≤ 219 }
 {
     put(&refusal(event, number, level), space)

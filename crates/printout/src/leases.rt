@@ -1,17 +1,14 @@
 ghost use Rattle.std.specs.Prelude.{◌≡◌, ◌+◌, ◌≤◌, ◌++◌, length, slice_get};
 ghost use Rattle.std.specs.Option.{ok_or};
 ghost use Rattle.arrayvec.specs.ArrayString.{array_string_len};
-ghost use Rattle.lending.specs.declared.lease.Lease.{Lease};
-ghost use Rattle.lending.specs.Effects.{MayWrite};
-ghost use Rattle.lending.specs.Promise.{Live};
 ghost use Rattle.printout.specs.declared.reason.LineReason.TheVariants.{NoSuchPosition};
-ghost use Rattle.printout.specs.Answers.{answered, left};
-ghost use Rattle.printout.specs.Lines.{letter, writes, lease_text, lease_line, line_at};
+ghost use Rattle.printout.specs.Answers.{answer_of, space_after};
+ghost use Rattle.printout.specs.Lines.{letter, writes, lease_text, line_at, LinesAreShort, LettersTell};
 
 use crate::line::{Line, put, write_field};
 use crate::reason::LineReason;
 use desk::{lease_at, may_write};
-use lending::Lease;
+use lending::{Lease, lending_is_conserved};
 use office::Office;
 use shares::Printed;
 
@@ -23,28 +20,33 @@ pub fn lease_line<O: Office>(
 ) -> Result<usize, LineReason>
 where
     O::Kind: Printed,
-    ensures answers { result ≡ answered (line_at O.Kind.Share.kind O.Kind.Printed.text (O.Office.meaning office.now).core.roll position) space.old }
-    ensures leaves { space.new ≡ left (line_at O.Kind.Share.kind O.Kind.Printed.text (O.Office.meaning office.now).core.roll position) space.old }
+    ensures answers { result ≡ answer_of (line_at O.Kind.Share.kind O.Kind.Printed.text (O.Office.meaning office.now).core.roll position) space.old }
+    ensures leaves { space.new ≡ space_after (line_at O.Kind.Share.kind O.Kind.Printed.text (O.Office.meaning office.now).core.roll position) space.old }
+    ensures short { LinesAreShort O.Kind.Share.kind O.Kind.Printed.text (O.Office.meaning office.now) }
+    ensures letters { LettersTell O.Kind.Share.kind (O.Office.meaning office.now) }
 {
     let lease = live_lease(office, position)?;
     let may_write = holder_may_write(office, lease);
     put(&lettered(lease, may_write), space)
 }
 
-// The live lease at a position.
+// The live lease at a position, and what holds of the lines of all.
 fn live_lease<O: Office>(office: &O, position: usize) -> Result<Lease<O::Kind>, LineReason>
-    ensures { result ≡ ok_or (slice_get (O.Office.meaning office.now).core.roll position) NoSuchPosition }
+where
+    O::Kind: Printed,
+    ensures is { result ≡ ok_or (slice_get (O.Office.meaning office.now).core.roll position) NoSuchPosition }
+    ensures short { LinesAreShort O.Kind.Share.kind O.Kind.Printed.text (O.Office.meaning office.now) }
+    ensures letters { LettersTell O.Kind.Share.kind (O.Office.meaning office.now) }
 {
-    match lease_at(office, position) {
-        Ok(lease) => Ok(lease),
-        Err(_) => Err(LineReason::NoSuchPosition),
-    }
+    lending_is_conserved::<O::Kind>();
+    lease_at(office, position)
+        .ok()
+        .ok_or(LineReason::NoSuchPosition)
 }
 
 // Whether the holder of a lease may write its resource.
 fn holder_may_write<O: Office>(office: &O, lease: Lease<O::Kind>) -> bool
-    ensures is { result ≡ writes O.Kind.Share.kind (O.Office.meaning office.now).core.roll lease }
-    ensures promised { MayWrite O.Kind.Share.kind (O.Office.meaning office.now) lease.resource lease.holder result }
+    ensures { result ≡ writes O.Kind.Share.kind (O.Office.meaning office.now).core.roll lease }
 {
     may_write(office, lease.resource, lease.holder)
 }

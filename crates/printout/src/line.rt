@@ -1,14 +1,14 @@
-// A line under way.
+// Lines under way.
 ghost use Rattle.std.specs.Prelude.{◌≡◌, ◌+◌, ◌<◌, ◌≤◌, ◌++◌, length, codes, Some};
 ghost use Rattle.arrayvec.specs.ArrayString.{array_string_len};
-ghost use Rattle.printout.specs.Answers.{answered, left};
+ghost use Rattle.printout.specs.Answers.{answer_of, space_after};
 
 use crate::reason::LineReason;
 use arrayvec::ArrayString;
 use itoa::{Buffer, Integer};
 
-// The bytes of a line lie in the value itself, since an office has no heap. No line has more than 256, so that there is always
-// room. (`write!` into it would read better, but the contract of a `Display` doesn't say that it never fails.)
+// A line under way. Its bytes lie in the value itself, since an office has no heap, and none is longer. (Its pieces are pushed one
+// by one: a `write!` into it promises something only of an Ok, so that it wouldn't be known not to fail.)
 pub(crate) type Line = ArrayString<256>;
 
 // Writes a number in decimal, and a blank.
@@ -31,10 +31,10 @@ pub(crate) fn write_number<I: Integer>(line: &mut Line, n: I)
     line.push_str(buffer.format(n));
 }
 
-// Copies a line to the front of a space.
+// Copies a line to the front of a space, if it is long enough.
 pub(crate) fn put(line: &Line, space: &mut [u8]) -> Result<usize, LineReason>
-    ensures answers { result ≡ answered (Some line.now.bytes) space.old }
-    ensures leaves { space.new ≡ left (Some line.now.bytes) space.old }
+    ensures answers { result ≡ answer_of (Some line.now.bytes) space.old }
+    ensures leaves { space.new ≡ space_after (Some line.now.bytes) space.old }
 {
     let length = line.len();
     if length > space.len() {

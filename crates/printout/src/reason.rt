@@ -3,7 +3,7 @@ ghost use Rattle.printout.specs.Answers.{number_of};
 
 use thiserror::Error;
 
-// Why no line was written. No office below is asked for a refusal of these, so their level is always 0.
+// Why a line call was refused. Such a call stands over an office and is none of its calls, so that these refusals have level 0.
 #[derive(Clone, Copy, PartialEq, Eq, Debug, Drop, Error)]
 pub enum LineReason {
     #[error("there is no such position")]

@@ -1,6 +1,6 @@
 ghost use Rattle.std.specs.Prelude.{◌≡◌, ◌≤◌, length, Some};
 ghost use Rattle.arrayvec.specs.ArrayString.{array_string_len};
-ghost use Rattle.printout.specs.Answers.{answered, left};
+ghost use Rattle.printout.specs.Answers.{answer_of, space_after};
 ghost use Rattle.printout.specs.Lines.{total_line};
 
 use crate::line::{Line, put, write_field, write_number};
@@ -25,8 +25,8 @@ pub struct Totals {
 
 // Writes the line of the totals.
 pub fn total_line(totals: Totals, space: &mut [u8]) -> Result<usize, LineReason>
-    ensures answers { result ≡ answered (Some (total_line totals)) space.old }
-    ensures leaves { space.new ≡ left (Some (total_line totals)) space.old }
+    ensures answers { result ≡ answer_of (Some (total_line totals)) space.old }
+    ensures leaves { space.new ≡ space_after (Some (total_line totals)) space.old }
     ensures short { length (total_line totals) ≤ 219 }
 {
     put(&total(totals), space)
