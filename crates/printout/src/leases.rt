@@ -30,7 +30,7 @@ where
     put(&lettered(lease, may_write), space)
 }
 
-// The live lease at a position, and what holds of the lines of all.
+// The live lease at a position, and what holds of the lines of all live leases.
 fn live_lease<O: Office>(office: &O, position: usize) -> Result<Lease<O::Kind>, LineReason>
 where
     O::Kind: Printed,

@@ -1,4 +1,3 @@
-// Lines under way.
 ghost use Rattle.std.specs.Prelude.{◌≡◌, ◌+◌, ◌<◌, ◌≤◌, ◌++◌, length, codes, Some};
 ghost use Rattle.arrayvec.specs.ArrayString.{array_string_len};
 ghost use Rattle.printout.specs.Answers.{answer_of, space_after};
@@ -7,8 +6,8 @@ use crate::reason::LineReason;
 use arrayvec::ArrayString;
 use itoa::{Buffer, Integer};
 
-// A line under way. Its bytes lie in the value itself, since an office has no heap, and none is longer. (Its pieces are pushed one
-// by one: a `write!` into it promises something only of an Ok, so that it wouldn't be known not to fail.)
+// A line under way. Its bytes lie in the value itself, since an office has no heap, and no line has more. (Its pieces are
+// pushed one by one: what `write!` promises, it promises of an Ok alone, and no line may fail that fits its space.)
 pub(crate) type Line = ArrayString<256>;
 
 // Writes a number in decimal, and a blank.
