@@ -6,6 +6,8 @@ mod worked;
 pub use worked::worked_examples_hold;
 
 #[cfg(test)]
+mod line_tests;
+#[cfg(test)]
 mod office_tests;
 #[cfg(test)]
 mod share_tests;

@@ -12,7 +12,7 @@ use term::Term;
 use trees::Trees;
 
 // A row that nothing was written to.
-fn free_row() -> Lease<Trees> {
+pub(crate) fn free_row() -> Lease<Trees> {
     Lease {
         number: 0,
         resource: 0,

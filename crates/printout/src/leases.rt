@@ -1,0 +1,87 @@
+ghost use Rattle.std.specs.Prelude.{◌≡◌, ◌+◌, ◌≤◌, ◌++◌, length, slice_get};
+ghost use Rattle.std.specs.Option.{ok_or};
+ghost use Rattle.arrayvec.specs.ArrayString.{array_string_len};
+ghost use Rattle.printout.specs.declared.reason.LineReason.TheVariants.{NoSuchPosition};
+ghost use Rattle.printout.specs.Answers.{answer_of, space_after};
+ghost use Rattle.printout.specs.Lines.{letter, writes, lease_text, line_at, LinesAreShort, LettersTell};
+
+use crate::line::{Line, put, write_field};
+use crate::reason::LineReason;
+use desk::{lease_at, may_write};
+use lending::{Lease, lending_is_conserved};
+use office::Office;
+use shares::Printed;
+
+// Writes the line of the live lease at a position of the roll, from 0. It says `w` exactly if the holder may write.
+pub fn lease_line<O: Office>(
+    office: &O,
+    position: usize,
+    space: &mut [u8],
+) -> Result<usize, LineReason>
+where
+    O::Kind: Printed,
+    ensures answers { result ≡ answer_of (line_at O.Kind.Share.kind O.Kind.Printed.text (O.Office.meaning office.now).core.roll position) space.old }
+    ensures leaves { space.new ≡ space_after (line_at O.Kind.Share.kind O.Kind.Printed.text (O.Office.meaning office.now).core.roll position) space.old }
+    ensures short { LinesAreShort O.Kind.Share.kind O.Kind.Printed.text (O.Office.meaning office.now) }
+    ensures letters { LettersTell O.Kind.Share.kind (O.Office.meaning office.now) }
+{
+    let lease = live_lease(office, position)?;
+    let may_write = holder_may_write(office, lease);
+    put(&lettered(lease, may_write), space)
+}
+
+// The live lease at a position, and what holds of the lines of all live leases.
+fn live_lease<O: Office>(office: &O, position: usize) -> Result<Lease<O::Kind>, LineReason>
+where
+    O::Kind: Printed,
+    ensures is { result ≡ ok_or (slice_get (O.Office.meaning office.now).core.roll position) NoSuchPosition }
+    ensures short { LinesAreShort O.Kind.Share.kind O.Kind.Printed.text (O.Office.meaning office.now) }
+    ensures letters { LettersTell O.Kind.Share.kind (O.Office.meaning office.now) }
+{
+    lending_is_conserved::<O::Kind>();
+    lease_at(office, position)
+        .ok()
+        .ok_or(LineReason::NoSuchPosition)
+}
+
+// Whether the holder of a lease may write its resource.
+fn holder_may_write<O: Office>(office: &O, lease: Lease<O::Kind>) -> bool
+    ensures { result ≡ writes O.Kind.Share.kind (O.Office.meaning office.now).core.roll lease }
+{
+    may_write(office, lease.resource, lease.holder)
+}
+
+// The line of a lease, by whether its holder may write.
+fn lettered<S: Printed>(lease: Lease<S>, may_write: bool) -> Line
+    ensures { result.bytes ≡ lease_text S.text lease may_write }
+{
+    let mut line = Line::new();
+    write_field(&mut line, lease.number);
+    write_field(&mut line, lease.resource);
+    write_field(&mut line, lease.holder);
+    write_field(&mut line, lease.lender);
+    write_field(&mut line, lease.due);
+    line.push_str(letter(may_write));
+    line.push_str(" ");
+    write_share(&mut line, lease.share);
+    line.push_str("\n");
+    line
+}
+
+// `w` for a holder that may write, else `r`.
+fn letter(may_write: bool) -> &'static str
+    ensures { result.now ≡ letter may_write }
+{
+    if may_write { "w" } else { "r" }
+}
+
+// Writes the text of a share.
+fn write_share<S: Printed>(line: &mut Line, share: S)
+    requires { array_string_len line.old + 190 ≤ 256 }
+    ensures text { line.new.bytes ≡ line.old.bytes ++ S.text share }
+    ensures short { array_string_len line.new ≤ array_string_len line.old + 190 }
+{
+    let mut space = [0u8; 190];
+    let length = share.write(&mut space);
+    line.push_str(str::from_utf8(&space[..length]).unwrap());
+}

@@ -1,0 +1,47 @@
+ghost use Rattle.std.specs.Prelude.{◌≡◌, ◌+◌, ◌≤◌, ◌++◌, length, codes, Some};
+ghost use Rattle.arrayvec.specs.ArrayString.{array_string_len};
+ghost use Rattle.printout.specs.Answers.{answer_of, space_after};
+ghost use Rattle.printout.specs.Lines.{refusal_line, level_text};
+
+use crate::line::{Line, put, write_field, write_number};
+use crate::reason::LineReason;
+
+// Writes the line of a refused event, by its place in the book, the number of the refusal, and its level if it has one.
+pub fn refusal_line(
+    event: usize,
+    number: u8,
+    level: Option<u8>,
+    space: &mut [u8],
+) -> Result<usize, LineReason>
+    ensures answers { result ≡ answer_of (Some (refusal_line event number level)) space.old }
+    ensures leaves { space.new ≡ space_after (Some (refusal_line event number level)) space.old }
+    ensures short { length (refusal_line event number level) ≤ 219 }
+{
+    put(&refusal(event, number, level), space)
+}
+
+// The line of a refused event.
+fn refusal(event: usize, number: u8, level: Option<u8>) -> Line
+    ensures text { result.bytes ≡ refusal_line event number level }
+    ensures short { array_string_len result ≤ 219 }
+{
+    let mut line = Line::new();
+    line.push_str("! ");
+    write_field(&mut line, event);
+    write_field(&mut line, number);
+    write_level(&mut line, level);
+    line.push_str("\n");
+    line
+}
+
+// Writes the level of a refusal, or `-` if it has none.
+fn write_level(line: &mut Line, level: Option<u8>)
+    requires { array_string_len line.old + 3 ≤ 256 }
+    ensures text { line.new.bytes ≡ line.old.bytes ++ level_text level }
+    ensures short { array_string_len line.new ≤ array_string_len line.old + 3 }
+{
+    match level {
+        Some(level) => write_number(line, level),
+        None => line.push_str("-"),
+    }
+}
