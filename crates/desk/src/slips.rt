@@ -1,4 +1,4 @@
-ghost use Rattle.std.specs.Prelude.{◌≡◌};
+ghost use Rattle.std.specs.Prelude.{◌≡◌, true, false};
 ghost use Rattle.lending.specs.Effects.{TakesBack};
 ghost use Rattle.lending.specs.Outcome.Answer.{number};
 ghost use Rattle.lending.specs.Outcome.Call.{hand_in};
@@ -10,30 +10,38 @@ use crate::recalls::recall;
 use lending::lending_is_conserved;
 use office::Office;
 
-// A slip for a lease, of any number. It must be handed in, just once: it can't be copied, and a program that lets one go, on
-// whichever way out, is refused by the check, since nobody can show what its drop requires.
+// A slip for a lease of any number. It must be handed in, just once: it can't be copied, handing it in uses it up, and a program
+// that lets one go before, on whichever way out, is refused by the check, which asks at each drop that it was handed in.
 pub struct Slip {
     lease: u16,
+    handed_in: bool,
 }
 
 impl Drop for Slip {
     fn drop(self)
-        requires handed_in { ⊥ }
+        requires handed_in { self.handed_in ≡ true }
     {
-        let Self { lease: _ } = self;
+        let Self {
+            lease: _,
+            handed_in: _,
+        } = self;
     }
 }
 
 impl Slip {
     // Draws a slip for a lease.
     pub fn draw(lease: u16) -> Slip
-        ensures { result.lease ≡ lease }
+        ensures lease { result.lease ≡ lease }
+        ensures drawn { result.handed_in ≡ false }
     {
-        Slip { lease }
+        Slip {
+            lease,
+            handed_in: false,
+        }
     }
 
     // Recalls the lease if it is live, and answers how many leases that closed, else 0.
-    pub fn hand_in<O: Office>(self, office: &mut O) -> usize
+    pub fn hand_in<O: Office>(mut self, office: &mut O) -> usize
         ensures does { Does O.Kind.Share.kind (O.Office.meaning office.old) (hand_in self.lease) (number result) (O.Office.meaning office.new) }
         ensures takes_back { TakesBack O.Kind.Share.kind (O.Office.meaning office.old) self.lease (O.Office.meaning office.new) }
         ensures unused { unused (O.Office.rows office.new) ≡ unused (O.Office.rows office.old) }
@@ -41,8 +49,8 @@ impl Slip {
         ensures always { LendingConserved O.Kind.Share.kind }
     {
         lending_is_conserved::<O::Kind>();
-        let Self { lease } = self;
-        recall_if_live(office, lease)
+        self.handed_in = true;
+        recall_if_live(office, self.lease)
     }
 }
 
