@@ -1,0 +1,3 @@
+pub mod Printouts
+pub mod Tenancy
+pub mod Played

@@ -1,0 +1,35 @@
+ghost use Rattle.std.specs.Prelude.{◌≡◌, ◌++◌, IfOk, OnOk, OnErr};
+ghost use Rattle.lending.specs.Promise.{LendingConserved};
+ghost use Rattle.office.specs.Lawful.{unused};
+ghost use Rattle.listing.specs.Printouts.{PrintsAfter};
+
+use crate::lines::{add_leases, add_refusal, add_refusals, add_totals};
+use lending::lending_is_conserved;
+use office::Office;
+use replay::{Replayed, replay};
+use shares::Printed;
+use std::alloc::{AllocError, Global};
+
+// Replays a book over an office, and adds its printout to some bytes.
+pub fn print_book<O: Office>(
+    alloc: Global,
+    office: &mut O,
+    book: &[u8],
+    out: &mut Vec<u8>,
+) -> Result<(), AllocError>
+where
+    O::Kind: Printed,
+    ensures prints { OnOk result (PrintsAfter O.Kind.Share.kind O.Kind.Printed.text book.now (O.Office.meaning office.old) out.old.items out.new.items (O.Office.meaning office.new)) }
+    ensures unused { unused (O.Office.rows office.new) ≡ unused (O.Office.rows office.old) }
+    ensures always { LendingConserved O.Kind.Share.kind }
+{
+    lending_is_conserved::<O::Kind>();
+    match replay(alloc, office, book)? {
+        Ok(Replayed { finished, faults }) => {
+            add_refusals(out, &faults)?;
+            add_leases(out, office)?;
+            add_totals(out, office, finished.tallies())
+        }
+        Err(fault) => add_refusal(out, fault),
+    }
+}

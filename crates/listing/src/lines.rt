@@ -1,0 +1,93 @@
+// Lines of a printout, each added to some bytes.
+ghost use Rattle.std.specs.Prelude.{◌≡◌, ◌<◌, ◌++◌, length, flat_map, map, IfOk, OnOk};
+ghost use Rattle.printout.specs.Lines.{line_at, total_line};
+ghost use Rattle.replay.specs.Told.{told};
+ghost use Rattle.listing.specs.Printouts.{line_of, lease_lines, refusal_lines, totals_of, added};
+
+use calls::Tallies;
+use desk::{count, issued};
+use office::Office;
+use printout::{Totals, lease_line, refusal_line, total_line};
+use replay::Fault;
+use shares::Printed;
+use std::alloc::AllocError;
+
+// The line of a refused event.
+pub(crate) fn add_refusal(out: &mut Vec<u8>, fault: Fault) -> Result<(), AllocError>
+    ensures { OnOk result (out.new.items ≡ out.old.items ++ line_of (told fault)) }
+{
+    let mut space = [0; 219];
+    let length = refusal_line(
+        usize::from(fault.event),
+        fault.number(),
+        fault.level(),
+        &mut space,
+    )
+    .unwrap();
+    out.extend_from_slice(&space[..length])
+}
+
+// The lines of refused events.
+pub(crate) fn add_refusals(out: &mut Vec<u8>, faults: &[Fault]) -> Result<(), AllocError>
+    ensures { OnOk result (out.new.items ≡ out.old.items ++ refusal_lines (map told faults.now)) }
+{
+    for fault in faults {
+        add_refusal(out, *fault)?;
+    }
+    Ok(())
+}
+
+// The lines of the live leases.
+pub(crate) fn add_leases<O: Office>(out: &mut Vec<u8>, office: &O) -> Result<(), AllocError>
+where
+    O::Kind: Printed,
+    ensures { OnOk result (out.new.items ≡ out.old.items ++ lease_lines O.Kind.Share.kind O.Kind.Printed.text (O.Office.meaning office.now).core.roll) }
+{
+    for position in 0..count(office) {
+        add_lease(out, office, position)?;
+    }
+    Ok(())
+}
+
+// The line of the live lease at a position.
+fn add_lease<O: Office>(
+    out: &mut Vec<u8>,
+    office: &O,
+    position: usize,
+) -> Result<(), AllocError>
+where
+    O::Kind: Printed,
+    requires { position < length (O.Office.meaning office.now).core.roll }
+    ensures { OnOk result (added (line_at O.Kind.Share.kind O.Kind.Printed.text (O.Office.meaning office.now).core.roll position) out.old.items out.new.items) }
+{
+    let mut space = [0; 219];
+    let length = lease_line(office, position, &mut space).unwrap();
+    out.extend_from_slice(&space[..length])
+}
+
+// The line of the totals.
+pub(crate) fn add_totals<O: Office>(
+    out: &mut Vec<u8>,
+    office: &O,
+    tallies: Tallies,
+) -> Result<(), AllocError>
+    ensures { OnOk result (out.new.items ≡ out.old.items ++ total_line (totals_of tallies (O.Office.meaning office.now))) }
+{
+    let Tallies {
+        yielded,
+        merged,
+        recalled,
+        lapsed,
+    } = tallies;
+    let totals = Totals {
+        issued: usize::from(issued(office)),
+        live: count(office),
+        yielded,
+        merged,
+        recalled,
+        lapsed,
+    };
+    let mut space = [0; 219];
+    let length = total_line(totals, &mut space).unwrap();
+    out.extend_from_slice(&space[..length])
+}
