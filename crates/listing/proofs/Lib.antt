@@ -1,1 +1,3 @@
 mod Following
+mod Adding
+mod Whole

@@ -6,7 +6,7 @@ ghost use Rattle.listing.specs.Printouts.{PrintsAfter};
 use crate::lines::{add_leases, add_refusal, add_refusals, add_totals};
 use lending::lending_is_conserved;
 use office::Office;
-use replay::{Replayed, replay};
+use replay::replay;
 use shares::Printed;
 use std::alloc::{AllocError, Global};
 
@@ -25,10 +25,10 @@ where
 {
     lending_is_conserved::<O::Kind>();
     match replay(alloc, office, book)? {
-        Ok(Replayed { finished, faults }) => {
-            add_refusals(out, &faults)?;
+        Ok(replayed) => {
+            add_refusals(out, &replayed.faults)?;
             add_leases(out, office)?;
-            add_totals(out, office, finished.tallies())
+            add_totals(out, office, replayed.finished.tallies())
         }
         Err(fault) => add_refusal(out, fault),
     }

@@ -50,6 +50,7 @@ where
 }
 
 // The line of the live lease at a position.
+#[tactic(auto, using(crate::proofs::Adding::fits))]
 fn add_lease<O: Office>(
     out: &mut Vec<u8>,
     office: &O,
@@ -73,21 +74,33 @@ pub(crate) fn add_totals<O: Office>(
 ) -> Result<(), AllocError>
     ensures { OnOk result (out.new.items ≡ out.old.items ++ total_line (totals_of tallies (O.Office.meaning office.now))) }
 {
+    add_total_line(out, totals_of(office, tallies))
+}
+
+fn add_total_line(out: &mut Vec<u8>, totals: Totals) -> Result<(), AllocError>
+    ensures { OnOk result (out.new.items ≡ out.old.items ++ total_line totals) }
+{
+    let mut space = [0; 219];
+    let length = total_line(totals, &mut space).unwrap();
+    out.extend_from_slice(&space[..length])
+}
+
+// What the office says at the end, and what was counted.
+fn totals_of<O: Office>(office: &O, tallies: Tallies) -> Totals
+    ensures { result ≡ totals_of tallies (O.Office.meaning office.now) }
+{
     let Tallies {
         yielded,
         merged,
         recalled,
         lapsed,
     } = tallies;
-    let totals = Totals {
+    Totals {
         issued: usize::from(issued(office)),
         live: count(office),
         yielded,
         merged,
         recalled,
         lapsed,
-    };
-    let mut space = [0; 219];
-    let length = total_line(totals, &mut space).unwrap();
-    out.extend_from_slice(&space[..length])
+    }
 }
