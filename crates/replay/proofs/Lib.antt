@@ -1,0 +1,2 @@
+pub mod Few
+pub mod Stepping
