@@ -3,4 +3,5 @@ pub mod Told
 pub mod Events
 pub mod Turns
 pub mod Steps
+pub mod Whole
 pub mod Ended
