@@ -1,0 +1,3 @@
+pub mod Few
+pub mod Stepping
+pub mod Running

@@ -1,0 +1,7 @@
+pub mod Limits
+pub mod Told
+pub mod Events
+pub mod Turns
+pub mod Steps
+pub mod Whole
+pub mod Ended

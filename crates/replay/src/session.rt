@@ -1,0 +1,102 @@
+ghost use Rattle.std.specs.Prelude.{◌*◌, ◌≤◌};
+ghost use Rattle.calls.specs.Listed.{all_closed};
+ghost use Rattle.replay.specs.Limits.{most_closed};
+
+use crate::event::{make_event, next_event, none_left};
+use crate::fault::Fault;
+use calls::Tallies;
+use lending::lending_is_conserved;
+use office::Office;
+
+// A session that is reading: how many events are done, and what their calls closed. It doesn't keep the book.
+#[derive(PartialEq, Eq, Debug, Drop)]
+pub struct Reading {
+    done: u16,
+    tallies: Tallies,
+    ghost few: { all_closed tallies ≤ most_closed * done },
+}
+
+impl Reading {
+    ghost use Rattle.std.specs.Prelude.{◌≡◌, false, is_ok};
+    ghost use Rattle.lending.specs.Promise.{LendingConserved};
+    ghost use Rattle.office.specs.Lawful.{unused};
+    ghost use Rattle.book.specs.Books.{opening};
+    ghost use Rattle.replay.specs.Events.{next};
+    ghost use Rattle.replay.specs.Steps.{Steps, Finishes};
+
+    // A session before the first event.
+    pub fn new() -> Reading
+        ensures begins { result.done ≡ 0 }
+        ensures counted { all_closed result.tallies ≡ 0 }
+    {
+        Reading {
+            done: 0,
+            tallies: Tallies::default(),
+        }
+    }
+
+    // Does the next event of a book. Where no event is reached, the session and the office stay as they were; a refused event
+    // is done with, and leaves the office as it was.
+    #[tactic(auto, using(crate::proofs::Stepping::refused_step))]
+    pub fn step<O: Office>(&mut self, office: &mut O, book: &[u8]) -> Result<(), Fault>
+        ensures steps { Steps O.Kind.Share.kind (next book.now self.old.done) (O.Office.meaning office.old) self.old result self.new (O.Office.meaning office.new) }
+        ensures same { is_ok result ≡ false → office.new ≡ office.old }
+        ensures unused { unused (O.Office.rows office.new) ≡ unused (O.Office.rows office.old) }
+        ensures always { LendingConserved O.Kind.Share.kind }
+    {
+        lending_is_conserved::<O::Kind>();
+        let event = next_event(book, self.done)?;
+        let made = make_event(office, event, self.tallies);
+        self.done += 1;
+        match made {
+            Ok(tallies) => {
+                self.tallies = tallies;
+                Ok(())
+            }
+            Err(mut fault) => {
+                fault.event = self.done;
+                Err(fault)
+            }
+        }
+    }
+
+    // Ends the session, once every event of the book is done. Refused, it is handed back as it was.
+    pub fn finish(self, book: &[u8]) -> Result<Finished, (Reading, Fault)>
+        ensures { Finishes (opening book.now) self result }
+    {
+        match none_left(book, self.done) {
+            Ok(()) => {
+                let Reading { done: _, tallies } = self;
+                Ok(Finished { closed: tallies })
+            }
+            Err(fault) => Err((self, fault)),
+        }
+    }
+}
+
+// A session that was finished, with what it counted.
+#[derive(PartialEq, Eq, Debug, Drop)]
+pub struct Finished {
+    closed: Tallies,
+}
+
+impl Finished {
+    ghost use Rattle.std.specs.Prelude.{◌≡◌};
+    ghost use Rattle.replay.specs.Ended.{IsReading};
+
+    // How many leases the calls of the replay closed.
+    pub fn tallies(&self) -> Tallies
+        ensures { result ≡ self.now.closed }
+    {
+        self.closed
+    }
+
+    // A finished session takes no step: begin a new replay. This is there to be refused by the check at every call, since nobody
+    // can show what it requires.
+    #[tactic(auto, unfolding(crate::specs::Ended::IsReading))]
+    pub fn step<O: Office>(&self, _office: &mut O, _book: &[u8]) -> Result<(), Fault>
+        requires reading { IsReading self.now }
+    {
+        unreachable!()
+    }
+}
