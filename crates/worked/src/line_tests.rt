@@ -27,8 +27,14 @@ fn lease_lines<S: Printed, O: Office<Kind = S> + Drop>(rt: &impl Abort, mut offi
     assert!(rt; has_line(&office, 0, b"1 7 1 0 10000 r (10)\n"));
     assert!(rt; has_line(&office, 1, b"2 7 2 1 20 r (01)\n"));
     let mut short = [b'.'; 17];
-    assert_eq!(rt; lease_line(&office, 2, &mut short), Err(LineReason::NoSuchPosition));
-    assert_eq!(rt; lease_line(&office, 1, &mut short), Err(LineReason::LineTooLong));
+    assert_eq!(rt;
+        lease_line(&office, 2, &mut short),
+        Err(LineReason::NoSuchPosition)
+    );
+    assert_eq!(rt;
+        lease_line(&office, 1, &mut short),
+        Err(LineReason::LineTooLong)
+    );
     assert_eq!(rt; short, [b'.'; 17]);
 }
 
@@ -47,7 +53,10 @@ fn refusals_print_a_line_each(rt: HostRuntime) {
     let answer = refusal_line(0, 41, None, &mut space);
     assert!(rt; wrote(answer, &space, b"! 0 41 -\n"));
     let mut short = [b'.'; 8];
-    assert_eq!(rt; refusal_line(4, 23, Some(2), &mut short), Err(LineReason::LineTooLong));
+    assert_eq!(rt;
+        refusal_line(4, 23, Some(2), &mut short),
+        Err(LineReason::LineTooLong)
+    );
     assert_eq!(rt; short, [b'.'; 8]);
 }
 
