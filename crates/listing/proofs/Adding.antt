@@ -1,9 +1,8 @@
 -- Lines added to some bytes.
-use Rattle.std.proofs.Common.{◌≡◌, ℕ, zero, suc, ◌+◌, ◌<◌, ◌≤◌, List, [], ◌∷◌, ◌++◌, length, take, drop, flat_map, slice_get, Bool, true, Some, None, Option, Ok, Err, Result, is_ok, IsOk, OnOk, nat_le, if◌then◌else◌, refl, sym, ap, ap₂, ◌∙◌, subst, arith, le_of_suc-le-suc}
+use Rattle.std.proofs.Common.{◌≡◌, ℕ, zero, suc, ◌+◌, ◌<◌, ◌≤◌, List, [], ◌∷◌, ◌++◌, length, take, drop, flat_map, slice_get, Bool, true, Some, Option, Ok, Err, Result, is_ok, IsOk, OnOk, nat_le, if◌then◌else◌, refl, sym, ap, ap₂, ◌∙◌, subst, arith, le_of_suc-le-suc}
 use Rattle.std.specs.Option.{option_map}
 use Rattle.std.proofs.lemmas.Bool.{le-leb}
 use Rattle.std.proofs.lemmas.List.{append_assoc}
-use mathlib.Core.List.Memᴰ
 use mathlib.Core.List.{Memᴰ}
 use Rattle.shares.specs.Kind.{Kind}
 use Rattle.lending.specs.declared.lease.Lease.{Lease}
@@ -58,7 +57,7 @@ module _ {S : Type 0} (K : Kind S) (text : S → List ℕ) where
 
 -- what a line call left at the front of its space
 pub placed : (line space after : List ℕ) (r : Result ℕ LineReason) (n : ℕ) → length line ≤ 219 → length space ≡ 219 → r ≡ answer_of (Some line) space → after ≡ space_after (Some line) space → r ≡ Ok n → take n after ≡ line
-placed line space after r n few size a b c = 
+placed line space after r n few size a b c =
     let test : nat_le (length line) (length space) ≡ true = le-leb (length line) (length space) (omega (arith, few, size)) in
     let d : ◌≡◌ {A = Result ℕ LineReason} (Ok n) (Ok (length line)) = sym c ∙ a ∙ ap (λ (t : Bool). if t then Ok (length line) else Err LineTooLong) test in
     let e : n ≡ length line = cc in

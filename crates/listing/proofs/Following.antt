@@ -1,22 +1,20 @@
 -- What is printed is what can be worked out, where objections follow from rules.
-use Rattle.std.proofs.Common.{◌≡◌, ℕ, zero, suc, List, [], ◌∷◌, length, map, None, sym, refl, ap, ◌∙◌, subst, ap₂}
-use mathlib.Core.List.Memᴰ
+use Rattle.std.proofs.Common.{◌≡◌, ℕ, suc, List, [], ◌∷◌, length, map, None, sym, refl, ap, ◌∙◌, subst, ap₂}
 use mathlib.Core.List.{Memᴰ}
 use Rattle.shares.specs.Kind.{Kind}
-use Rattle.lending.specs.Office.{Core, State, Request, Refusal}
+use Rattle.lending.specs.Office.{Core, State, Request}
 use Rattle.lending.specs.Outcome.{Outcome}
 use Rattle.lending.specs.Outcome.Outcome.{refuses, tells, grants}
 use Rattle.lending.specs.Perform.{perform, Ends}
 use Rattle.lending.specs.History.{Moment, Leads}
 use Rattle.lending.specs.Play.{objections, answer_of, state_after}
-use Rattle.replay.specs.Events.{Next, next}
-use Rattle.replay.specs.Events.Next.{nothing, no_call, a_call}
+use Rattle.replay.specs.Events.{Next}
 use Rattle.replay.specs.Whole.{Turn, InOrder, history, refusals}
 use Rattle.replay.specs.Whole.Turn.{passed, made}
 use Rattle.calls.specs.declared.list.Tallies.{Tallies}
 use Rattle.replay.specs.Told.{Told, told}
-use Rattle.listing.specs.Printouts.{printout, Listed}
-use Rattle.listing.specs.Played.{Layers, turn_on, turns, tallies_of, printed_opened, Ruled, PrintoutFollows}
+use Rattle.listing.specs.Printouts.{printout}
+use Rattle.listing.specs.Played.{Layers, turn_on, turns, tallies_of, Ruled, PrintoutFollows}
 
 module _ {S : Type 0} (K : Kind S) (layers : Layers S) where
   -- states of one core whose objections follow from it are one

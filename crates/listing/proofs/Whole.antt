@@ -1,5 +1,5 @@
 -- The parts of a printout put together.
-use Rattle.std.proofs.Common.{◌≡◌, ℕ, List, [], ◌++◌, map, Ok, Err, Some, None, Option, Result, IfOk, OnOk, refl, sym, ap, ◌∙◌, subst, arith}
+use Rattle.std.proofs.Common.{◌≡◌, ℕ, List, [], ◌++◌, map, Ok, Err, None, Result, OnOk, refl, sym, ap, ◌∙◌, subst, arith}
 use Rattle.std.proofs.lemmas.List.{append_assoc}
 use Rattle.shares.specs.Kind.{Kind}
 use Rattle.lending.specs.Office.{State}
@@ -8,9 +8,9 @@ use Rattle.book.specs.Books.{opening, count_in}
 use Rattle.calls.specs.declared.list.Tallies.{Tallies}
 use Rattle.printout.specs.Lines.{total_line}
 use Rattle.replay.specs.declared.fault.Fault.{Fault}
-use Rattle.replay.specs.Told.{Told, told, plain}
+use Rattle.replay.specs.Told.{told}
 use Rattle.replay.specs.Whole.{Replay, unopened}
-use Rattle.listing.specs.Printouts.{line_of, refusal_lines, lease_lines, totals_of, printout, Listed, PrintsBy, Prints, PrintsAfter, PrintsNew}
+use Rattle.listing.specs.Printouts.{refusal_lines, lease_lines, totals_of, printout, PrintsBy, Prints, PrintsAfter, PrintsNew}
 
 -- what holds where there was memory leads to what follows from it
 pub if_ok : {T E : Type 0} (r : Result T E) (P Q : Type 0) → (P → Q) → OnOk r P → OnOk r Q

@@ -51,11 +51,7 @@ where
 
 // The line of the live lease at a position.
 #[tactic(auto, using(crate::proofs::Adding::fits))]
-fn add_lease<O: Office>(
-    out: &mut Vec<u8>,
-    office: &O,
-    position: usize,
-) -> Result<(), AllocError>
+fn add_lease<O: Office>(out: &mut Vec<u8>, office: &O, position: usize) -> Result<(), AllocError>
 where
     O::Kind: Printed,
     requires { position < length (O.Office.meaning office.now).core.roll }

@@ -17,8 +17,8 @@ returns-in_ok-add_leases-in-Ok-clause-prints g c =
     let opens : None ≡ unopened (opening b) = sym (ap told_of c.in-Ok.is) ∙ c.in_ok-replayed.ensures.opens in
     let replayed : Replay K b s (count_in b) c.in-Ok.replayed.faults.items c.in-Ok.replayed.finished.closed t = subst (λ o. IfOk o (λ whole. Replay K b s (count_in b) whole.faults.items whole.finished.closed t)) c.in-Ok.is c.in_ok-replayed.ensures.replays in
     if_ok c.add_totals.result (c.add_totals.new.out.items ≡ c.add_leases.new.out.items ++ total_line (totals_of c.tallies.result t)) (PrintsAfter K text b s c.args.out.now.items c.add_totals.new.out.items t)
-        (λ e. listed K text b s t opens c.in-Ok.replayed.faults.items c.in-Ok.replayed.finished.closed replayed c.args.out.now.items c.add_refusals.new.out.items c.add_leases.new.out.items c.add_totals.new.out.items
-            (c.in_ok-add_refusals-in-Ok.ensures ∙ ap (λ xs. c.args.out.now.items ++ refusal_lines (map told xs)) c.deref.ensures.value)
-            c.in_ok-add_leases-in-Ok.ensures
-            (e ∙ ap (λ x. c.add_leases.new.out.items ++ total_line (totals_of x t)) c.tallies.ensures))
-        c.add_totals.ensures
+    (λ e. listed K text b s t opens c.in-Ok.replayed.faults.items c.in-Ok.replayed.finished.closed replayed c.args.out.now.items c.add_refusals.new.out.items c.add_leases.new.out.items c.add_totals.new.out.items
+    (c.in_ok-add_refusals-in-Ok.ensures ∙ ap (λ xs. c.args.out.now.items ++ refusal_lines (map told xs)) c.deref.ensures.value)
+    c.in_ok-add_leases-in-Ok.ensures
+    (e ∙ ap (λ x. c.add_leases.new.out.items ++ total_line (totals_of x t)) c.tallies.ensures))
+    c.add_totals.ensures

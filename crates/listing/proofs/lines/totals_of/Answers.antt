@@ -1,4 +1,4 @@
-use Rattle.std.proofs.Common.{◌≡◌, ℕ, length, ◌∙◌}
+use Rattle.std.proofs.Common.{◌≡◌, length, ◌∙◌}
 use Rattle.listing.proofs.Adding.{one_answer}
 use Rattle.listing.proofs.lines.totals_of.Goals as goal
 

@@ -1,4 +1,4 @@
-use Rattle.std.proofs.Common.{◌≡◌, ℕ, min, IfOk, length, sym, ap, ◌∙◌, subst, arith}
+use Rattle.std.proofs.Common.{◌≡◌, ℕ, min, IfOk, length, ap, ◌∙◌, subst, arith}
 use Rattle.lending.specs.Office.{new_ledger}
 use Rattle.lending.specs.Play.{pile}
 use Rattle.listing.specs.Printouts.{PrintsNew}
