@@ -15,18 +15,25 @@ use Rattle.replay.specs.Events.{Next, next}
 use Rattle.replay.specs.Events.Next.{nothing, no_call, a_call}
 use Rattle.replay.specs.Whole.{Turn, history, refusals}
 use Rattle.replay.specs.Whole.Turn.{passed, made}
+use Rattle.kinds.specs.declared.kind.KindOfShare.{KindOfShare}
+use Rattle.kinds.specs.declared.kind.KindOfShare.TheVariants.{Trees, Counting}
+use Rattle.trees.specs.Cells.{trees_kind, text_of_share}
+use Rattle.counting.specs.Counts.{counting_kind, text}
+use Rattle.lending.specs.Office.{new_ledger}
+use Rattle.lending.specs.Play.{pile}
+use Rattle.listing.specs.Tenancy.{layers}
 use Rattle.listing.specs.Printouts.{line_of, printout, Listed}
 
 -- what the layers of an office object to, by the roll and today
 abbrev pub Layers : Type 0 → Type 0
 Layers S = List (List (Lease S) → ℕ → Request → Option ℕ)
 
-module _ {S : Type 0} (K : Kind S) (layers : Layers S) where
+module _ {S : Type 0} (K : Kind S) (rules : Layers S) where
   -- one event more
   abbrev pub turn_on : Next → List (Turn S) × State S → List (Turn S) × State S
   turn_on (nothing n) p = p
   turn_on (no_call n) p = (passed n ∷ p.0, p.1)
-  turn_on (a_call c) p = let o = perform K p.1 c in (made (record { before = p.1; call = c; answer = answer_of o }) ∷ p.0, state_after layers o p.1)
+  turn_on (a_call c) p = let o = perform K p.1 c in (made (record { before = p.1; call = c; answer = answer_of o }) ∷ p.0, state_after rules o p.1)
 
   -- what the first n events of a book with these bytes come to, the last one first, and the state that they lead to
   abbrev pub turns : List ℕ → State S → ℕ → List (Turn S) × State S
@@ -50,8 +57,24 @@ module _ {S : Type 0} (K : Kind S) (layers : Layers S) where
 
   -- the objections follow from the layers' rules
   abbrev pub Ruled : State S → Type 0
-  Ruled s = s.objections ≡ objections layers s.core.roll s.core.today
+  Ruled s = s.objections ≡ objections rules s.core.roll s.core.today
 
   -- A printout is the one that can be worked out, if each call came to an office whose objections follow from the rules.
   abbrev pub PrintoutFollows : (S → List ℕ) → Type 0
   PrintoutFollows text = (b bytes : List ℕ) (s t : State S) → Ruled s → (w : Listed K text b s bytes t) → ((m : Moment S) → Memᴰ m (history w.replayed.turns) → Ruled m.before) → bytes ≡ printed_opened text b s
+
+-- a book that opens, over a new office with the layers that its header names
+abbrev pub played_in : {S : Type 0} → Header → Kind S → (S → List ℕ) → List ℕ → List ℕ
+played_in header K text b = printed_opened K (layers header) text b (pile (layers header) (new_ledger 1024))
+
+abbrev pub played_kind : KindOfShare → Header → List ℕ → List ℕ
+played_kind Trees header b = played_in header trees_kind text_of_share b
+played_kind Counting header b = played_in header counting_kind (λ s. text s.held) b
+
+abbrev pub played_by : Result Header ℕ → List ℕ → List ℕ
+played_by (Err n) b = line_of (plain 0 n)
+played_by (Ok header) b = played_kind header.kind header b
+
+-- The printout of a book with these bytes, worked out.
+abbrev pub played : List ℕ → List ℕ
+played b = played_by (opening b) b

@@ -12,6 +12,7 @@ use Rattle.lending.specs.Play.{pile, play}
 use Rattle.quota.specs.Means.{quota_objects}
 use Rattle.term.specs.Means.{term_objects}
 use Rattle.chain.specs.Means.{chain_objects}
+use Rattle.listing.specs.Played.{played as printed_of}
 
 abbrev pub layers : List (List (Lease Trees) → ℕ → Request → Option ℕ)
 layers = quota_objects 64 ∷ term_objects 30 ∷ chain_objects 2 ∷ []
@@ -37,8 +38,25 @@ totals = played.1.core.issued ∷ length played.1.core.roll ∷ yielded played.0
 abbrev pub shown : Lease Trees → ℕ × ℕ × ℕ × ℕ × ℕ × List ℕ
 shown l = (l.number, l.resource, l.holder, l.lender, l.due, text_of_share l.share)
 
--- What comes of the calls: their answers, the roll, and the totals.
+-- the same calls as a tenancy book: its header, its codes, and its records
+abbrev pub book : List ℕ
+book =
+    10 ∷ 0 ∷ 1 ∷ 2 ∷ 30 ∷ 0 ∷ 0 ∷ 0 ∷
+    1 ∷ 2 ∷ 2 ∷ 2 ∷ 3 ∷ 7 ∷ 5 ∷ 2 ∷ 2 ∷ 6 ∷
+    7 ∷ 0 ∷ 1 ∷ 0 ∷ 0 ∷ 0 ∷
+    1 ∷ 0 ∷ 2 ∷ 0 ∷ 20 ∷ 0 ∷
+    2 ∷ 0 ∷ 3 ∷ 0 ∷ 10 ∷ 0 ∷
+    3 ∷ 0 ∷ 4 ∷ 0 ∷ 5 ∷ 0 ∷
+    2 ∷ 0 ∷ 0 ∷ 0 ∷ 0 ∷ 0 ∷
+    10 ∷ 0 ∷ 0 ∷ 0 ∷ 0 ∷ 0 ∷
+    2 ∷ 0 ∷ 1 ∷ 0 ∷ 0 ∷ 0 ∷
+    1 ∷ 0 ∷ 5 ∷ 0 ∷ 41 ∷ 0 ∷
+    1 ∷ 0 ∷ 5 ∷ 0 ∷ 40 ∷ 0 ∷
+    2 ∷ 0 ∷ 0 ∷ 0 ∷ 0 ∷ 0 ∷ []
+
+-- What comes of the calls: their answers, the roll, and the totals; and what is printed of the book.
 pub record WorkedBook : Type 0 where
   pub answered : answers ≡ number 1 ∷ number 2 ∷ number 3 ∷ refusal 23 2 ∷ refusal 9 3 ∷ number 1 ∷ done ∷ refusal 22 1 ∷ number 4 ∷ number 1 ∷ []
   pub left : map shown played.1.core.roll ≡ (1, 7, 1, 0, 10000, codes "((10)1)") ∷ (4, 7, 5, 1, 40, codes "((01)0)") ∷ []
   pub summed : totals ≡ 4 ∷ 2 ∷ 0 ∷ 0 ∷ 1 ∷ 1 ∷ []
+  pub printed : printed_of book ≡ codes "! 4 23 2\n! 5 9 3\n! 8 22 1\n1 7 1 0 10000 r ((10)1)\n4 7 5 1 40 r ((01)0)\n= 4 2 0 0 1 1\n"

@@ -1,11 +1,13 @@
 use Rattle.std.proofs.Common.{refl}
 use Rattle.trees.specs.Cells.{cut}
 use Rattle.counting.specs.Counts.{counting_of}
+use Rattle.std.specs.Fmt.{digits}
+use Rattle.replay.specs.Events.{event_at}
 use Rattle.worked.proofs.worked.worked_examples_hold.Goals as goal
 
 -- each by evaluation
 pub returns : goal.returns
-unfolding cut counting_of
+unfolding cut counting_of event_at digits
 returns c = record {
   whole = refl;
   whole_halves = refl;
@@ -22,5 +24,5 @@ returns c = record {
   four_back = refl;
   last_reader = refl;
   no_more_readers = refl;
-  book = record { answered = refl; left = refl; summed = refl };
+  book = record { answered = refl; left = refl; summed = refl; printed = refl };
 }
