@@ -4,4 +4,3 @@ pub mod Events
 pub mod Turns
 pub mod Steps
 pub mod Whole
-pub mod Ended

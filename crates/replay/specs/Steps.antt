@@ -1,5 +1,5 @@
 -- Stepping and finishing a session.
-use Rattle.std.specs.Prelude.{◌≡◌, ℕ, ◌+◌, Some, None, Result, Ok, Err}
+use Rattle.std.specs.Prelude.{◌≡◌, ℕ, ◌+◌, true, Some, None, Result, Ok, Err}
 use Rattle.shares.specs.Kind.{Kind}
 use Rattle.lending.specs.Office.{State}
 use Rattle.book.specs.declared.header.Header.{Header}
@@ -18,7 +18,7 @@ module _ {S : Type 0} where
   Steps K (no_call n) s x r y t = (y.done ≡ x.done + 1) × Comes K (no_call n) (x.done + 1) s x.tallies r y.tallies t
   Steps K (a_call c) s x r y t = (y.done ≡ x.done + 1) × Comes K (a_call c) (x.done + 1) s x.tallies r y.tallies t
 
--- Finishing session x, by what opening the book says: it is handed out finished with the same counts, or handed back as it was.
+-- Finishing session x, by what opening the book says: it is handed out ended with the same counts, or handed back as it was.
 abbrev pub Finishes : Result Header ℕ → Reading → Result Finished (Reading × Fault) → Type 0
-Finishes opened x (Ok finished) = (finishing opened x.done ≡ None) × (finished.closed ≡ x.tallies)
+Finishes opened x (Ok finished) = (finishing opened x.done ≡ None) × (finished.closed ≡ x.tallies) × (finished.ended ≡ true)
 Finishes opened x (Err back) = (finishing opened x.done ≡ Some (told back.1)) × (back.0 ≡ x)

@@ -4,6 +4,7 @@ ghost use Rattle.replay.specs.Limits.{most_closed};
 
 use crate::event::{make_event, next_event, none_left};
 use crate::fault::Fault;
+use book::BookReason;
 use calls::Tallies;
 use lending::lending_is_conserved;
 use office::Office;
@@ -67,7 +68,10 @@ impl Reading {
         match none_left(book, self.done) {
             Ok(()) => {
                 let Reading { done: _, tallies } = self;
-                Ok(Finished { closed: tallies })
+                Ok(Finished {
+                    closed: tallies,
+                    ended: true,
+                })
             }
             Err(fault) => Err((self, fault)),
         }
@@ -78,11 +82,12 @@ impl Reading {
 #[derive(PartialEq, Eq, Debug, Drop)]
 pub struct Finished {
     closed: Tallies,
+    // which it has, whenever one is handed out
+    ended: bool,
 }
 
 impl Finished {
-    ghost use Rattle.std.specs.Prelude.{◌≡◌};
-    ghost use Rattle.replay.specs.Ended.{IsReading};
+    ghost use Rattle.std.specs.Prelude.{◌≡◌, false};
 
     // How many leases the calls of the replay closed.
     pub fn tallies(&self) -> Tallies
@@ -91,12 +96,11 @@ impl Finished {
         self.closed
     }
 
-    // A finished session takes no step: begin a new replay. This is there to be refused by the check at every call, since nobody
-    // can show what it requires.
-    #[tactic(auto, unfolding(crate::specs::Ended::IsReading))]
+    // A finished session takes no step: begin a new replay. This is there to be refused by the check at every call, which asks that
+    // the session has not ended.
     pub fn step<O: Office>(&self, _office: &mut O, _book: &[u8]) -> Result<(), Fault>
-        requires reading { IsReading self.now }
+        requires reading { self.now.ended ≡ false }
     {
-        unreachable!()
+        Err(BookReason::NoEventLeft.into())
     }
 }
