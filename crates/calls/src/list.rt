@@ -42,6 +42,7 @@ impl Tallies {
 pub fn make_all<O: Office>(office: &mut O, calls: &[Call]) -> Tallies
     ensures made { Made O.Kind.Share.kind (O.Office.meaning office.old) calls.now result (O.Office.meaning office.new) }
     ensures unused { unused (O.Office.rows office.new) ≡ unused (O.Office.rows office.old) }
+    ensures layers { O.Office.layers office.new ≡ O.Office.layers office.old }
     ensures always { LendingConserved O.Kind.Share.kind }
 {
     make_each(office, calls)
@@ -52,6 +53,7 @@ pub fn make_all<O: Office>(office: &mut O, calls: &[Call]) -> Tallies
 fn make_each<O: Office>(office: &mut O, calls: &[Call]) -> Tallies
     ensures made { Made O.Kind.Share.kind (O.Office.meaning office.old) calls.now result (O.Office.meaning office.new) }
     ensures unused { unused (O.Office.rows office.new) ≡ unused (O.Office.rows office.old) }
+    ensures layers { O.Office.layers office.new ≡ O.Office.layers office.old }
     ensures always { LendingConserved O.Kind.Share.kind }
 {
     lending_is_conserved::<O::Kind>();

@@ -19,6 +19,7 @@ pub fn make<O: Office>(office: &mut O, call: Call) -> Result<Answer<O::Kind>, Re
     ensures does { Does O.Kind.Share.kind (O.Office.meaning office.old) (called call) (answered result) (O.Office.meaning office.new) }
     ensures same { is_ok result ≡ false → office.new ≡ office.old }
     ensures unused { unused (O.Office.rows office.new) ≡ unused (O.Office.rows office.old) }
+    ensures layers { O.Office.layers office.new ≡ O.Office.layers office.old }
     ensures conserved { CallConserves O.Kind.Share.kind (O.Office.meaning office.old) (called call) (answered result) (O.Office.meaning office.new) }
     ensures always { LendingConserved O.Kind.Share.kind }
 {

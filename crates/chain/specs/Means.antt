@@ -4,7 +4,7 @@ use Rattle.lending.specs.declared.lease.Lease.{Lease}
 use Rattle.lending.specs.Office.{Request}
 use Rattle.lending.specs.Office.Request.{opening, delegating, assigning}
 use Rattle.lending.specs.Roll.{live, height}
-use Rattle.lending.specs.Layers.{number_if}
+use Rattle.lending.specs.Layers.{Own, number_if}
 
 -- the lender of a lease, if there is the lease and its lender is not the house
 abbrev pub lender_of_lease : {S : Type 0} → Option (Lease S) → Option ℕ
@@ -12,7 +12,7 @@ lender_of_lease None = None
 lender_of_lease (Some l) = cond (l.lender == 0) None (Some l.lender)
 
 -- 23: the lender is live and has so many leases above it or more
-abbrev pub chain_objects : {S : Type 0} → ℕ → List (Lease S) → ℕ → Request → Option ℕ
+abbrev pub chain_objects : {S : Type 0} → ℕ → Own S
 chain_objects limit roll today (opening resource holder) = None
 chain_objects limit roll today (delegating lender holder due) = number_if (live roll lender && nat_le limit (height roll lender)) 23
 chain_objects limit roll today (assigning lease holder) = None

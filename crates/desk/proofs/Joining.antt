@@ -30,6 +30,3 @@ module _ {S : Type 0} (K : Kind S) (L : Laws K) (resource holder : ℕ) where
       go : (b : Bool) → b ≡ true → plus? K (Some all) (together K (map (λ l. l.share) (cond b (x ∷ filter (λ l. eqb l.resource resource && eqb l.holder holder) rest) (filter (λ l. eqb l.resource resource && eqb l.holder holder) rest)))) ≡ plus? K (K.join all x.share) (standing_of K rest resource holder)
       go true q = ap (plus? K (Some all)) (together_plus K x.share (shares_of rest resource holder)) ∙ sym (plus_assoc K L (Some all) (Some x.share) (standing_of K rest resource holder)) ∙ ap (λ (o : Option S). plus? K o (standing_of K rest resource holder)) (plus_join K all x.share)
       go false q = absurd (false≢true q)
-
-  pub joins_not : (all : S) (x : Lease S) (rest left : List (Lease S)) → left ≡ x ∷ rest → (eqb x.resource resource && eqb x.holder holder) ≡ false → joining all left ≡ joining all rest
-  joins_not all x rest left e q = ap (joining all) e ∙ ap (λ (b : Bool). plus? K (Some all) (together K (map (λ l. l.share) (cond b (x ∷ filter (λ l. eqb l.resource resource && eqb l.holder holder) rest) (filter (λ l. eqb l.resource resource && eqb l.holder holder) rest))))) q

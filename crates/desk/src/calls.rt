@@ -14,6 +14,7 @@ pub fn open<O: Office>(office: &mut O, resource: u16, holder: u16) -> Result<u16
     ensures does { Does O.Kind.Share.kind (O.Office.meaning office.old) (open_resource resource holder) (told_number result) (O.Office.meaning office.new) }
     ensures same { is_ok result ≡ false → office.new ≡ office.old }
     ensures unused { unused (O.Office.rows office.new) ≡ unused (O.Office.rows office.old) }
+    ensures layers { O.Office.layers office.new ≡ O.Office.layers office.old }
     ensures conserved { CallConserves O.Kind.Share.kind (O.Office.meaning office.old) (open_resource resource holder) (told_number result) (O.Office.meaning office.new) }
     ensures always { LendingConserved O.Kind.Share.kind }
 {
@@ -31,6 +32,7 @@ pub fn delegate<O: Office>(
     ensures does { Does O.Kind.Share.kind (O.Office.meaning office.old) (delegate lender holder due) (told_number result) (O.Office.meaning office.new) }
     ensures same { is_ok result ≡ false → office.new ≡ office.old }
     ensures unused { unused (O.Office.rows office.new) ≡ unused (O.Office.rows office.old) }
+    ensures layers { O.Office.layers office.new ≡ O.Office.layers office.old }
     ensures conserved { CallConserves O.Kind.Share.kind (O.Office.meaning office.old) (delegate lender holder due) (told_number result) (O.Office.meaning office.new) }
     ensures always { LendingConserved O.Kind.Share.kind }
 {
@@ -43,6 +45,7 @@ pub fn yield_lease<O: Office>(office: &mut O, lease: u16) -> Result<(), Refusal>
     ensures does { Does O.Kind.Share.kind (O.Office.meaning office.old) (yield lease) (told result) (O.Office.meaning office.new) }
     ensures same { is_ok result ≡ false → office.new ≡ office.old }
     ensures unused { unused (O.Office.rows office.new) ≡ unused (O.Office.rows office.old) }
+    ensures layers { O.Office.layers office.new ≡ O.Office.layers office.old }
     ensures conserved { CallConserves O.Kind.Share.kind (O.Office.meaning office.old) (yield lease) (told result) (O.Office.meaning office.new) }
     ensures always { LendingConserved O.Kind.Share.kind }
 {
@@ -55,6 +58,7 @@ pub fn merge<O: Office>(office: &mut O, a: u16, b: u16) -> Result<(), Refusal>
     ensures does { Does O.Kind.Share.kind (O.Office.meaning office.old) (merge a b) (told result) (O.Office.meaning office.new) }
     ensures same { is_ok result ≡ false → office.new ≡ office.old }
     ensures unused { unused (O.Office.rows office.new) ≡ unused (O.Office.rows office.old) }
+    ensures layers { O.Office.layers office.new ≡ O.Office.layers office.old }
     ensures conserved { CallConserves O.Kind.Share.kind (O.Office.meaning office.old) (merge a b) (told result) (O.Office.meaning office.new) }
     ensures always { LendingConserved O.Kind.Share.kind }
 {
@@ -67,6 +71,7 @@ pub fn assign<O: Office>(office: &mut O, lease: u16, holder: u16) -> Result<(), 
     ensures does { Does O.Kind.Share.kind (O.Office.meaning office.old) (assign lease holder) (told result) (O.Office.meaning office.new) }
     ensures same { is_ok result ≡ false → office.new ≡ office.old }
     ensures unused { unused (O.Office.rows office.new) ≡ unused (O.Office.rows office.old) }
+    ensures layers { O.Office.layers office.new ≡ O.Office.layers office.old }
     ensures conserved { CallConserves O.Kind.Share.kind (O.Office.meaning office.old) (assign lease holder) (told result) (O.Office.meaning office.new) }
     ensures always { LendingConserved O.Kind.Share.kind }
 {
@@ -79,6 +84,7 @@ pub fn set_day<O: Office>(office: &mut O, day: u16) -> Result<(), Refusal>
     ensures does { Does O.Kind.Share.kind (O.Office.meaning office.old) (new_day day) (told result) (O.Office.meaning office.new) }
     ensures same { is_ok result ≡ false → office.new ≡ office.old }
     ensures unused { unused (O.Office.rows office.new) ≡ unused (O.Office.rows office.old) }
+    ensures layers { O.Office.layers office.new ≡ O.Office.layers office.old }
     ensures conserved { CallConserves O.Kind.Share.kind (O.Office.meaning office.old) (new_day day) (told result) (O.Office.meaning office.new) }
     ensures always { LendingConserved O.Kind.Share.kind }
 {

@@ -45,6 +45,7 @@ impl Slip {
         ensures does { Does O.Kind.Share.kind (O.Office.meaning office.old) (hand_in self.lease) (number result) (O.Office.meaning office.new) }
         ensures takes_back { TakesBack O.Kind.Share.kind (O.Office.meaning office.old) self.lease (O.Office.meaning office.new) }
         ensures unused { unused (O.Office.rows office.new) ≡ unused (O.Office.rows office.old) }
+        ensures layers { O.Office.layers office.new ≡ O.Office.layers office.old }
         ensures conserved { CallConserves O.Kind.Share.kind (O.Office.meaning office.old) (hand_in self.lease) (number result) (O.Office.meaning office.new) }
         ensures always { LendingConserved O.Kind.Share.kind }
     {
@@ -59,6 +60,7 @@ impl Slip {
 fn recall_if_live<O: Office>(office: &mut O, lease: u16) -> usize
     ensures does { Does O.Kind.Share.kind (O.Office.meaning office.old) (hand_in lease) (number result) (O.Office.meaning office.new) }
     ensures unused { unused (O.Office.rows office.new) ≡ unused (O.Office.rows office.old) }
+    ensures layers { O.Office.layers office.new ≡ O.Office.layers office.old }
 {
     recall(office, lease).unwrap_or(0)
 }

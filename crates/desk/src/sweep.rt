@@ -17,6 +17,7 @@ pub(crate) type Numbers = ArrayVec<u16, MOST_ROWS>;
 pub(crate) fn yield_down<O: Office>(office: &mut O, numbers: &[u16])
     ensures leaves { (u : State O.Kind) → yields O.Kind.Share.kind (O.Office.meaning office.old) (reverse numbers.now) ≡ grants done u → (O.Office.meaning office.new).core ≡ u.core }
     ensures unused { unused (O.Office.rows office.new) ≡ unused (O.Office.rows office.old) }
+    ensures layers { O.Office.layers office.new ≡ O.Office.layers office.old }
 {
     for number in numbers.iter().rev() {
         // it is granted, so that there is no refusal to pass on

@@ -9,7 +9,7 @@ use Rattle.lending.specs.Office.Request.{opening, delegating}
 use Rattle.lending.specs.Outcome.{Call, Answer}
 use Rattle.lending.specs.Outcome.Call.{open_resource, delegate, merge}
 use Rattle.lending.specs.Perform.{Does}
-use Rattle.lending.specs.Layers.{Passes, layered, passed_up}
+use Rattle.lending.specs.Layers.{Own, Passes, layered, passed_up}
 use Rattle.lending.specs.Told.{raised, told, told_number}
 use Rattle.lending.proofs.Layering.{layer_is_office}
 
@@ -28,7 +28,7 @@ module _ {S : Type 0} where
   done_up (Err f) (Ok x) e = absurd e
   done_up (Err f) (Err g) e = ap (λ h. told (Err h)) e
 
-module _ {S : Type 0} (K : Kind S) (mine : List (Lease S) → ℕ → Request → Option ℕ) (s t : State S) where
+module _ {S : Type 0} (K : Kind S) (mine : Own S) (s t : State S) where
   up : (c : Call) (a b : Answer S) → b ≡ passed_up a → Passes (mine s.core.roll s.core.today) c → Does K s c a t → Does K (layered mine s) c b (layered mine t)
   up c a b e pass d = subst (λ (x : Answer S). Does K (layered mine s) c x (layered mine t)) (sym e) (layer_is_office K mine s t c a pass d)
 

@@ -1,10 +1,10 @@
--- A layer over a lawful office is lawful.
+-- A layer over a lawful office is lawful, and its objections follow from its layers if those below do.
 -- A proof, which nobody need read: it stands in specs/ because the implementation names it, and no contract cites it.
-use Rattle.std.specs.Prelude.{◌≡◌, ℕ, ◌≤◌, List, Some, None, Option}
+use Rattle.std.specs.Prelude.{◌≡◌, ℕ, ◌≤◌, List, ◌∷◌, Some, None, Option}
 use Rattle.std.proofs.Common.{refl, ap, arith}
 use Rattle.lending.specs.declared.lease.Lease.{Lease}
 use Rattle.lending.specs.Office.{Refusal, State, Request}
-use Rattle.lending.specs.Layers.{up, own_or_raised, layered}
+use Rattle.lending.specs.Layers.{Own, Layers, Follow, up, own_or_raised, layered}
 use Rattle.office.specs.Lawful.{Lawful}
 use Rattle.layer.specs.declared.layer.Layer.{Layer}
 
@@ -17,7 +17,7 @@ below_depth depth (Some n) below r h e = let k : 0 ≡ r.level = ap level_of e i
 below_depth depth None None r h e = cc
 below_depth depth None (Some f) r h e = let k : up f.level ≡ r.level = ap level_of e in let l = h f refl in omega arith
 
-pub layer_lawful : {O R S : Type 0} (means : O → State S) (rows : O → List (Lease S)) (objects : R → List (Lease S) → ℕ → Request → Option ℕ) → ((o : O) → Lawful (means o) (rows o)) → (layer : Layer O R) → Lawful (layered (objects layer.rule) (means layer.below)) (rows layer.below)
+pub layer_lawful : {O R S : Type 0} (means : O → State S) (rows : O → List (Lease S)) (objects : R → Own S) → ((o : O) → Lawful (means o) (rows o)) → (layer : Layer O R) → Lawful (layered (objects layer.rule) (means layer.below)) (rows layer.below)
 layer_lawful means rows objects lawful layer =
     let s = means layer.below in
     let l = lawful layer.below in
@@ -30,3 +30,8 @@ layer_lawful means rows objects lawful layer =
       orderly = l.orderly;
       levels = λ q r e. below_depth s.core.depth (objects layer.rule s.core.roll s.core.today q) (s.objections q) r (l.levels q) e;
     }
+
+pub layer_follows : {O R S : Type 0} (means : O → State S) (layers : O → Layers S) (objects : R → Own S) → ((o : O) → Follow (layers o) (means o)) → (layer : Layer O R) → Follow (objects layer.rule ∷ layers layer.below) (layered (objects layer.rule) (means layer.below))
+layer_follows means layers objects follow layer =
+    let s = means layer.below in
+    ap {B = Request → Option Refusal} (λ (o : Request → Option Refusal) (q : Request). own_or_raised (objects layer.rule s.core.roll s.core.today q) (o q)) (follow layer.below)

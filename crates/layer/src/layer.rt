@@ -1,9 +1,9 @@
-ghost use Rattle.std.specs.Prelude.{◌≡◌, MatchResult};
+ghost use Rattle.std.specs.Prelude.{◌≡◌, ◌∷◌, MatchResult};
 ghost use Rattle.lending.specs.Office.{SetUp};
 ghost use Rattle.lending.specs.Layers.{layered};
 ghost use Rattle.lending.specs.Told.{number_of};
 ghost use Rattle.layer.specs.Asked.{requested};
-ghost use Rattle.layer.specs.Lawful.{layer_lawful};
+ghost use Rattle.layer.specs.Lawful.{layer_lawful, layer_follows};
 
 use crate::rule::{Request, Rule};
 use lending::{Lease, Refusal};
@@ -22,6 +22,7 @@ impl<O: Office, R: Rule<O>> Layer<O, R> {
         ensures stands { ⟦<Layer<O, R> as Office>⟧.meaning result ≡ layered (R.Rule.objects rule) (O.Office.meaning below) }
         ensures set_up { SetUp (O.Office.meaning below) → SetUp (⟦<Layer<O, R> as Office>⟧.meaning result) }
         ensures rows { ⟦<Layer<O, R> as Office>⟧.rows result ≡ O.Office.rows below }
+        ensures layers { ⟦<Layer<O, R> as Office>⟧.layers result ≡ R.Rule.objects rule ∷ O.Office.layers below }
     {
         Layer { below, rule }
     }
@@ -33,6 +34,7 @@ impl<O: Office, R: Rule<O>> Layer<O, R> {
         ensures is { result ≡ self.below }
         ensures stands { ⟦<Layer<O, R> as Office>⟧.meaning self ≡ layered (R.Rule.objects self.rule) (O.Office.meaning result) }
         ensures rows { ⟦<Layer<O, R> as Office>⟧.rows self ≡ O.Office.rows result }
+        ensures layers { ⟦<Layer<O, R> as Office>⟧.layers self ≡ R.Rule.objects self.rule ∷ O.Office.layers result }
     {
         let Layer { below, .. } = self;
         below
@@ -56,7 +58,11 @@ impl<O: Office, R: Rule<O>> Office for Layer<O, R> {
 
     ghost rows = { λ layer. O.Office.rows layer.below };
 
+    ghost layers = { λ layer. R.Rule.objects layer.rule ∷ O.Office.layers layer.below };
+
     ghost lawful = { layer_lawful O.Office.meaning O.Office.rows R.Rule.objects O.Office.lawful };
+
+    ghost follow = { layer_follows O.Office.meaning O.Office.layers R.Rule.objects O.Office.follow };
 
     fn count(&self) -> usize {
         self.below.count()

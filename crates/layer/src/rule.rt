@@ -1,7 +1,6 @@
-ghost use Rattle.std.specs.Prelude.{◌≡◌, ℕ, List, Option};
+ghost use Rattle.std.specs.Prelude.{◌≡◌};
 ghost use Rattle.std.specs.Option.{option_map};
-ghost use Rattle.lending.specs.declared.lease.Lease.{Lease};
-ghost use Rattle.lending.specs.Office.{Request};
+ghost use Rattle.lending.specs.Layers.{Own};
 ghost use Rattle.lending.specs.Told.{number_of};
 ghost use Rattle.layer.specs.Asked.{requested};
 
@@ -19,7 +18,7 @@ pub enum Request {
 // What a layer adds to an office: its own objections.
 pub trait Rule<O: Office> {
     // What it objects to, by the roll and today of the office below: the number of a reason, or none.
-    ghost objects: { Self → List (Lease O.Kind) → ℕ → Request → Option ℕ };
+    ghost objects: { Self → Own O.Kind };
 
     // The reason why it objects to a request, if it does.
     fn objection(&self, below: &O, request: Request) -> Option<Reason>

@@ -1,7 +1,8 @@
 -- What a ledger keeps of itself makes it lawful.
 -- A proof, which nobody need read: it stands in specs/ because the implementation names it, and no contract cites it.
-use Rattle.std.specs.Prelude.{◌≡◌, ℕ, take, refl}
+use Rattle.std.specs.Prelude.{◌≡◌, ℕ, [], take, refl}
 use Rattle.std.proofs.Common.{ap, arith, length-take}
+use Rattle.lending.specs.Layers.{Follow}
 use Rattle.office.specs.Lawful.{Lawful}
 use Rattle.ledger.specs.declared.ledger.Ledger.{Ledger}
 use Rattle.ledger.specs.Means.{means, rows_in}
@@ -16,3 +17,6 @@ ledger_lawful l = record {
   orderly = l.orderly;
   levels = λ q r e. absurd (let z : ◌≡◌ {A = ℕ} 0 1 = cc in omega arith);
 }
+
+pub ledger_follows : {S : Type 0} (l : Ledger S) → Follow [] (means l)
+ledger_follows l = refl

@@ -23,9 +23,6 @@ module _ {S : Type 0} where
   pub like_same : (x y : Lease S) → x ≡ y → Like x y
   like_same x y e = record { number = ap (λ (l : Lease S). l.number) e; resource = ap (λ (l : Lease S). l.resource) e; lender = ap (λ (l : Lease S). l.lender) e; due = ap (λ (l : Lease S). l.due) e }
 
-  pub like_trans : (x y z : Lease S) → Like x y → Like y z → Like x z
-  like_trans x y z a b = record { number = a.number ∙ b.number; resource = a.resource ∙ b.resource; lender = a.lender ∙ b.lender; due = a.due ∙ b.due }
-
   abbrev pub Keeps : (Lease S → Lease S) → Type 0
   Keeps g = (l : Lease S) → Like (g l) l
 

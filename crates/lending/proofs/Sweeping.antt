@@ -17,7 +17,7 @@ use Rattle.lending.specs.Outcome.Call.{day}
 use Rattle.lending.specs.Outcome.Answer.{done, number}
 use Rattle.lending.specs.Effects.{gaining}
 use Rattle.lending.specs.Outcome.Outcome.{refuses, grants}
-use Rattle.lending.proofs.Rolls.{Rising, rising_above, in_find, absent_found, some_is_true, some_is_none, some_is_found, mem_map, map_mem, mem_keep, keep_mem, rising_keep, mem_close, close_mem}
+use Rattle.lending.proofs.Rolls.{Rising, rising_above, in_find, absent_found, some_is_true, some_is_none, mem_map, map_mem, mem_keep, keep_mem, rising_keep, mem_close, close_mem}
 use Rattle.lending.proofs.Families.{Low, NoZero, in_family, family_step, above_lower}
 use Rattle.lending.proofs.Yielding.{give}
 use Rattle.lending.proofs.Numbers.{Has}
@@ -50,9 +50,6 @@ is_among ns n k = some_is_true (λ m. eqb m n) ns n k (eq-eqb n n refl)
 
 pub not_among : (ns : List ℕ) (n : ℕ) → (Memᴰ n ns → ⊥) → among ns n ≡ false
 not_among ns n h = some_is_none (λ m. eqb m n) ns (λ m k e. h (Memᴰ.cast (sym (eqb-true m n e)) k))
-
-pub among_is : (ns : List ℕ) (n : ℕ) → among ns n ≡ true → Memᴰ n ns
-among_is ns n e = let r = some_is_found (λ m. eqb m n) ns e in Memᴰ.cast (sym (eqb-true r.0 n r.2)) r.1
 
 module _ {S : Type 0} where
   falling_reverse : (lo : ℕ) (ls : List (Lease S)) (acc : List ℕ) → Rising lo ls → ((m : ℕ) → Memᴰ m acc → m ≤ lo) → Falling acc → Falling (reverse_aux (map (λ l. l.number) ls) acc)

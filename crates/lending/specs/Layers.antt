@@ -1,5 +1,5 @@
 -- A layer over an office: its own objections come first, and everything else is passed down and up.
-use Rattle.std.specs.Prelude.{◌≡◌, ℕ, ◌+◌, min, Bool, cond, List, Some, None, Option}
+use Rattle.std.specs.Prelude.{◌≡◌, ℕ, ◌+◌, min, Bool, cond, List, [], ◌∷◌, Some, None, Option}
 use Rattle.shares.specs.Kind.{Kind}
 use Rattle.lending.specs.declared.lease.Lease.{Lease}
 use Rattle.lending.specs.Limits.{most_layers}
@@ -46,18 +46,40 @@ Passes mine (day d) = ⊥
 Passes mine (standing r h) = ⊥
 Passes mine (hand_in n) = ⊥
 
+-- what a layer objects to by itself, by the roll and today: the number of a refusal, or none
+abbrev pub Own : Type 0 → Type 0
+Own S = List (Lease S) → ℕ → Request → Option ℕ
+
+-- the same of each layer of an office, the outermost first
+abbrev pub Layers : Type 0 → Type 0
+Layers S = List (Own S)
+
 module _ {S : Type 0} where
+  -- what layers object to together over a ledger, which has no objections
+  abbrev pub objections : Layers S → List (Lease S) → ℕ → Request → Option Refusal
+  objections [] roll today q = None
+  objections (mine ∷ below) roll today q = own_or_raised (mine roll today q) (objections below roll today q)
+
+  -- The objections of an office with these layers follow from the roll and today.
+  abbrev pub Follow : Layers S → State S → Type 0
+  Follow layers s = s.objections ≡ objections layers s.core.roll s.core.today
+
   -- all but the objections, of a layer
   abbrev pub deeper : Core S → Core S
   deeper c = record { roll = c.roll; issued = c.issued; today = c.today; capacity = c.capacity; depth = up c.depth }
 
   -- What a layer stands for over an office that stands for s. What it objects to itself it tells by the roll and today.
-  abbrev pub layered : (List (Lease S) → ℕ → Request → Option ℕ) → State S → State S
+  abbrev pub layered : Own S → State S → State S
   layered mine s =
       record {
         core = deeper s.core;
         objections = λ q. own_or_raised (mine s.core.roll s.core.today q) (s.objections q);
       }
+
+  -- some layers, the outermost first, over an office
+  abbrev pub pile : Layers S → State S → State S
+  pile [] s = s
+  pile (mine ∷ below) s = layered mine (pile below s)
 
   -- an answer as a layer passes it up
   abbrev pub passed_up : Answer S → Answer S
@@ -70,4 +92,4 @@ module _ {S : Type 0} where
   -- A layer is an office: where it has no objection of its own, what the office below does, passed up, is what an office
   -- does that stands for the layered state.
   abbrev pub LayerIsOffice : Kind S → Type 0
-  LayerIsOffice K = (mine : List (Lease S) → ℕ → Request → Option ℕ) (s t : State S) (c : Call) (a : Answer S) → Passes (mine s.core.roll s.core.today) c → Does K s c a t → Does K (layered mine s) c (passed_up a) (layered mine t)
+  LayerIsOffice K = (mine : Own S) (s t : State S) (c : Call) (a : Answer S) → Passes (mine s.core.roll s.core.today) c → Does K s c a t → Does K (layered mine s) c (passed_up a) (layered mine t)

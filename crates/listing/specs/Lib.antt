@@ -1,3 +1,2 @@
 pub mod Printouts
 pub mod Tenancy
-pub mod Played

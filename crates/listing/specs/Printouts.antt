@@ -1,16 +1,16 @@
--- The printout of a whole book.
-use Rattle.std.specs.Prelude.{◌≡◌, ℕ, List, ◌++◌, length, flat_map, map, Some, None, Option, Ok, Err, Result}
+-- The printout of a whole book, worked out from its bytes.
+use Rattle.std.specs.Prelude.{◌≡◌, ℕ, List, ◌++◌, length, flat_map, Some, None, Option, Ok, Err, Result}
 use Rattle.shares.specs.Kind.{Kind}
 use Rattle.lending.specs.declared.lease.Lease.{Lease}
 use Rattle.lending.specs.Office.{State}
+use Rattle.lending.specs.Layers.{Layers}
 use Rattle.book.specs.declared.header.Header.{Header}
 use Rattle.book.specs.Books.{opening, count_in}
 use Rattle.calls.specs.declared.list.Tallies.{Tallies}
 use Rattle.printout.specs.declared.totals.Totals.{Totals}
 use Rattle.printout.specs.Lines.{refusal_line, lease_line, total_line}
-use Rattle.replay.specs.declared.fault.Fault.{Fault}
-use Rattle.replay.specs.Told.{Told, told, plain}
-use Rattle.replay.specs.Whole.{Replay}
+use Rattle.replay.specs.Told.{Told, plain}
+use Rattle.replay.specs.Whole.{refusals, tallies_of, run}
 
 -- the line of what a fault tells
 abbrev pub line_of : Told → List ℕ
@@ -37,26 +37,24 @@ module _ {S : Type 0} where
   abbrev pub printout : Kind S → (S → List ℕ) → List Told → Tallies → State S → List ℕ
   printout K text refused tallies t = refusal_lines refused ++ lease_lines K text t.core.roll ++ total_line (totals_of tallies t)
 
-  -- A book with these bytes was replayed over an office that stood for s and then stands for t, and this is its printout.
-  pub record Listed (K : Kind S) (text : S → List ℕ) (b : List ℕ) (s : State S) (bytes : List ℕ) (t : State S) : Type 0 where
-    pub faults : List Fault
-    pub tallies : Tallies
-    -- every event in its order, with the lending promise
-    pub replayed : Replay K b s (count_in b) faults tallies t
-    pub is : bytes ≡ printout K text (map told faults) tallies t
+  module _ (K : Kind S) (layers : Layers S) where
+    -- the printout of a book that opens
+    abbrev pub printed_opened : (S → List ℕ) → List ℕ → State S → List ℕ
+    printed_opened text b s = let p = run K layers b s (count_in b) in printout K text (refusals p.0) (tallies_of p.0) p.1
 
-  -- The printout of a book by what opening it says: one that doesn't open has one line.
-  abbrev pub PrintsBy : Result Header ℕ → Kind S → (S → List ℕ) → List ℕ → State S → List ℕ → State S → Type 0
-  PrintsBy (Err n) K text b s bytes t = (bytes ≡ line_of (plain 0 n)) × (t ≡ s)
-  PrintsBy (Ok header) K text b s bytes t = Listed K text b s bytes t
+    abbrev pub printed_by : Result Header ℕ → (S → List ℕ) → List ℕ → State S → List ℕ
+    printed_by (Err n) text b s = line_of (plain 0 n)
+    printed_by (Ok header) text b s = printed_opened text b s
 
-  abbrev pub Prints : Kind S → (S → List ℕ) → List ℕ → State S → List ℕ → State S → Type 0
-  Prints K text b s bytes t = PrintsBy (opening b) K text b s bytes t
+    -- The printout of a book with these bytes at an office with these layers that stands for s: one that doesn't open has one
+    -- line.
+    abbrev pub printed : (S → List ℕ) → List ℕ → State S → List ℕ
+    printed text b s = printed_by (opening b) text b s
 
-  -- some bytes, and after them the printout
-  abbrev pub PrintsAfter : Kind S → (S → List ℕ) → List ℕ → State S → List ℕ → List ℕ → State S → Type 0
-  PrintsAfter K text b s before after t = (bytes : List ℕ) × (after ≡ before ++ bytes) × Prints K text b s bytes t
+    abbrev pub left_by : Result Header ℕ → List ℕ → State S → State S
+    left_by (Err n) b s = s
+    left_by (Ok header) b s = (run K layers b s (count_in b)).1
 
-  -- the printout over an office that stood for s, whatever it stands for in the end
-  abbrev pub PrintsNew : Kind S → (S → List ℕ) → List ℕ → State S → List ℕ → Type 0
-  PrintsNew K text b s bytes = (t : State S) × Prints K text b s bytes t
+    -- what the office stands for after it
+    abbrev pub left : List ℕ → State S → State S
+    left b s = left_by (opening b) b s

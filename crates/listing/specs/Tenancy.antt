@@ -1,38 +1,59 @@
 -- The printout of a book over a new office of its own kind of share.
-use Rattle.std.specs.Prelude.{◌≡◌, ℕ, List, [], ◌∷◌, Option, Ok, Err, Result}
+use Rattle.std.specs.Prelude.{ℕ, List, [], ◌∷◌, Ok, Err, Result}
 use Rattle.kinds.specs.declared.kind.KindOfShare.{KindOfShare}
 use Rattle.kinds.specs.declared.kind.KindOfShare.TheVariants.{Trees, Counting}
 use Rattle.trees.specs.Cells.{trees_kind, text_of_share}
 use Rattle.counting.specs.Counts.{counting_kind, text}
 use Rattle.shares.specs.Kind.{Kind}
-use Rattle.lending.specs.declared.lease.Lease.{Lease}
-use Rattle.lending.specs.Office.{Request, new_ledger}
-use Rattle.lending.specs.Play.{pile}
+use Rattle.lending.specs.Office.{State, new_ledger}
+use Rattle.lending.specs.Layers.{Layers, pile}
 use Rattle.quota.specs.Means.{quota_objects}
 use Rattle.term.specs.Means.{term_objects}
 use Rattle.chain.specs.Means.{chain_objects}
 use Rattle.book.specs.declared.header.Header.{Header}
-use Rattle.book.specs.Books.{opening}
+use Rattle.book.specs.Books.{opening, count_in}
 use Rattle.replay.specs.Told.{plain}
-use Rattle.listing.specs.Printouts.{line_of, PrintsNew}
+use Rattle.replay.specs.Whole.{RunConserved}
+use Rattle.listing.specs.Printouts.{line_of, printed}
 
--- the layers of a book's office, the outermost first
-abbrev pub layers : {S : Type 0} → Header → List (List (Lease S) → ℕ → Request → Option ℕ)
-layers header = quota_objects 64 ∷ term_objects header.term ∷ chain_objects header.chain ∷ []
+module _ {S : Type 0} where
+  -- the layers of a book's office, the outermost first
+  abbrev pub layers : Header → Layers S
+  layers header = quota_objects 64 ∷ term_objects header.term ∷ chain_objects header.chain ∷ []
 
--- a new office for a book with this header
-abbrev pub PrintsIn : {S : Type 0} → Header → Kind S → (S → List ℕ) → List ℕ → List ℕ → Type 0
-PrintsIn header K text b bytes = PrintsNew K text b (pile (layers header) (new_ledger 1024)) bytes
+  -- what a new office with them stands for: a ledger of 1,024 rows under them
+  abbrev pub new_office : Header → State S
+  new_office header = pile (layers header) (new_ledger 1024)
+
+  -- the printout over it
+  abbrev pub played_in : Header → Kind S → (S → List ℕ) → List ℕ → List ℕ
+  played_in header K text b = printed K (layers header) text b (new_office header)
+
+  -- the lending promise of the events of a book, replayed over it
+  abbrev pub ConservedIn : Header → Kind S → List ℕ → Type 0
+  ConservedIn header K b = RunConserved K (layers header) b (new_office header) (count_in b)
 
 -- by the kind of share that the book names
-abbrev pub of_kind : KindOfShare → Header → List ℕ → List ℕ → Type 0
-of_kind Trees header b bytes = PrintsIn header trees_kind text_of_share b bytes
-of_kind Counting header b bytes = PrintsIn header counting_kind (λ s. text s.held) b bytes
+abbrev pub played_kind : KindOfShare → Header → List ℕ → List ℕ
+played_kind Trees header b = played_in header trees_kind text_of_share b
+played_kind Counting header b = played_in header counting_kind (λ s. text s.held) b
 
-abbrev pub TenancyBy : Result Header ℕ → List ℕ → List ℕ → Type 0
-TenancyBy (Err n) b bytes = bytes ≡ line_of (plain 0 n)
-TenancyBy (Ok header) b bytes = of_kind header.kind header b bytes
+abbrev pub ConservedKind : KindOfShare → Header → List ℕ → Type 0
+ConservedKind Trees header b = ConservedIn header trees_kind b
+ConservedKind Counting header b = ConservedIn header counting_kind b
+
+abbrev pub played_by : Result Header ℕ → List ℕ → List ℕ
+played_by (Err n) b = line_of (plain 0 n)
+played_by (Ok header) b = played_kind header.kind header b
+
+abbrev pub ConservedBy : Result Header ℕ → List ℕ → Type 0
+ConservedBy (Err n) b = Unit {0}
+ConservedBy (Ok header) b = ConservedKind header.kind header b
 
 -- The printout of a book with these bytes.
-abbrev pub Tenancy : List ℕ → List ℕ → Type 0
-Tenancy b bytes = TenancyBy (opening b) b bytes
+abbrev pub played : List ℕ → List ℕ
+played b = played_by (opening b) b
+
+-- The lending promise of its events, if it opens.
+abbrev pub PlayedConserved : List ℕ → Type 0
+PlayedConserved b = ConservedBy (opening b) b

@@ -1,7 +1,9 @@
-ghost use Rattle.std.specs.Prelude.{◌≡◌, ◌++◌, IfOk, OnOk, OnErr};
+ghost use Rattle.std.specs.Prelude.{◌≡◌, ◌++◌, OnErr, OnOk};
+ghost use Rattle.book.specs.Books.{count_in};
 ghost use Rattle.lending.specs.Promise.{LendingConserved};
 ghost use Rattle.office.specs.Lawful.{unused};
-ghost use Rattle.listing.specs.Printouts.{PrintsAfter};
+ghost use Rattle.replay.specs.Whole.{RunConserved};
+ghost use Rattle.listing.specs.Printouts.{printed, left};
 
 use crate::lines::{add_leases, add_refusal, add_refusals, add_totals};
 use lending::lending_is_conserved;
@@ -19,8 +21,11 @@ pub fn print_book<O: Office>(
 ) -> Result<(), AllocError>
 where
     O::Kind: Printed,
-    ensures prints { OnOk result (PrintsAfter O.Kind.Share.kind O.Kind.Printed.text book.now (O.Office.meaning office.old) out.old.items out.new.items (O.Office.meaning office.new)) }
+    ensures prints { OnOk result (out.new.items ≡ out.old.items ++ printed O.Kind.Share.kind (O.Office.layers office.old) O.Kind.Printed.text book.now (O.Office.meaning office.old)) }
+    ensures leaves { OnOk result (O.Office.meaning office.new ≡ left O.Kind.Share.kind (O.Office.layers office.old) book.now (O.Office.meaning office.old)) }
+    ensures conserved { RunConserved O.Kind.Share.kind (O.Office.layers office.old) book.now (O.Office.meaning office.old) (count_in book.now) }
     ensures unused { unused (O.Office.rows office.new) ≡ unused (O.Office.rows office.old) }
+    ensures layers { O.Office.layers office.new ≡ O.Office.layers office.old }
     ensures always { LendingConserved O.Kind.Share.kind }
 {
     lending_is_conserved::<O::Kind>();

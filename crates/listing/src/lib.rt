@@ -2,10 +2,8 @@
 #![tactic(auto)]
 
 mod books;
-mod follows;
 mod lines;
 mod piles;
 
 pub use books::print_book;
-pub use follows::printouts_follow;
 pub use piles::tenancy;

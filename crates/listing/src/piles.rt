@@ -1,16 +1,21 @@
-ghost use Rattle.std.specs.Prelude.{◌≡◌, IfOk};
-ghost use Rattle.lending.specs.Office.{new_ledger};
-ghost use Rattle.lending.specs.Play.{pile};
+ghost use Rattle.std.specs.Prelude.{◌≡◌, ◌∷◌, ◌++◌, IfOk, OnOk};
+ghost use Rattle.lending.specs.Layers.{layered, pile};
+ghost use Rattle.quota.specs.Means.{quota_objects};
+ghost use Rattle.term.specs.Means.{term_objects};
+ghost use Rattle.chain.specs.Means.{chain_objects};
+ghost use Rattle.book.specs.Books.{count_in};
 ghost use Rattle.book.specs.Told.{number_of};
 ghost use Rattle.replay.specs.Told.{plain};
-ghost use Rattle.listing.specs.Printouts.{line_of, PrintsNew};
-ghost use Rattle.listing.specs.Tenancy.{layers, Tenancy};
+ghost use Rattle.replay.specs.Whole.{RunConserved};
+ghost use Rattle.listing.specs.Printouts.{line_of, printed};
+ghost use Rattle.listing.specs.Tenancy.{layers, played, played_in, ConservedIn, PlayedConserved};
 
 use crate::books::print_book;
 use crate::lines::add_refusal;
 use book::{Book, BookReason, Header};
 use chain::Chain;
 use kinds::{of_kind, *};
+use layer::Layer;
 use ledger::Ledger;
 use lending::{Lease, MOST_ROWS};
 use office::Office;
@@ -24,7 +29,8 @@ const QUOTA: u16 = 64;
 
 // The printout of a book, replayed in a new office of its own kind of share: Quota on Term on Chain on a ledger.
 pub fn tenancy(alloc: Global, book: &[u8]) -> Result<Vec<u8>, AllocError>
-    ensures { IfOk result (λ printout. Tenancy book.now printout.items) }
+    ensures prints { IfOk result (λ printout. printout.items ≡ played book.now) }
+    ensures conserved { OnOk result (PlayedConserved book.now) }
 {
     match Book::open(book) {
         Ok(Book { header, .. }) => of_kind!(header.kind, print_new(alloc, header, book)),
@@ -43,7 +49,8 @@ fn print_unopened(alloc: Global, reason: BookReason) -> Result<Vec<u8>, AllocErr
 
 // The printout over a new ledger.
 fn print_new<S: Printed>(alloc: Global, header: Header, book: &[u8]) -> Result<Vec<u8>, AllocError>
-    ensures { IfOk result (λ printout. PrintsNew S.kind S.text book.now (pile (layers header) (new_ledger 1024)) printout.items) }
+    ensures prints { IfOk result (λ printout. printout.items ≡ played_in header S.kind S.text book.now) }
+    ensures conserved { OnOk result (ConservedIn header S.kind book.now) }
 {
     let free = Lease {
         number: 0,
@@ -66,12 +73,34 @@ fn print_over<O: Office + Drop>(
 ) -> Result<Vec<u8>, AllocError>
 where
     O::Kind: Printed,
-    ensures { IfOk result (λ printout. PrintsNew O.Kind.Share.kind O.Kind.Printed.text book.now (pile (layers header) (O.Office.meaning below)) printout.items) }
+    ensures prints { IfOk result (λ printout. printout.items ≡ printed O.Kind.Share.kind (layers header ++ O.Office.layers below) O.Kind.Printed.text book.now (pile (layers header) (O.Office.meaning below))) }
+    ensures conserved { OnOk result (RunConserved O.Kind.Share.kind (layers header ++ O.Office.layers below) book.now (pile (layers header) (O.Office.meaning below)) (count_in book.now)) }
 {
-    let chain = Chain::over(below, u16::from(header.chain));
-    let term = Term::over(chain, header.term);
-    let mut office = Quota::over(term, QUOTA);
+    let mut office = with_quota(with_term(with_chain(below, header), header));
     let mut out = Vec::new(alloc);
     print_book(alloc, &mut office, book, &mut out)?;
     Ok(out)
+}
+
+// The layers of a book's office, each in a function of its own, so that a wrong number is refused where it stands.
+
+fn with_quota<O: Office>(below: O) -> Layer<O, Quota>
+    ensures stands { ⟦<Layer<O, Quota> as Office>⟧.meaning result ≡ layered (quota_objects 64) (O.Office.meaning below) }
+    ensures layers { ⟦<Layer<O, Quota> as Office>⟧.layers result ≡ quota_objects 64 ∷ O.Office.layers below }
+{
+    Quota::over(below, QUOTA)
+}
+
+fn with_term<O: Office>(below: O, header: Header) -> Layer<O, Term>
+    ensures stands { ⟦<Layer<O, Term> as Office>⟧.meaning result ≡ layered (term_objects header.term) (O.Office.meaning below) }
+    ensures layers { ⟦<Layer<O, Term> as Office>⟧.layers result ≡ term_objects header.term ∷ O.Office.layers below }
+{
+    Term::over(below, header.term)
+}
+
+fn with_chain<O: Office>(below: O, header: Header) -> Layer<O, Chain>
+    ensures stands { ⟦<Layer<O, Chain> as Office>⟧.meaning result ≡ layered (chain_objects header.chain) (O.Office.meaning below) }
+    ensures layers { ⟦<Layer<O, Chain> as Office>⟧.layers result ≡ chain_objects header.chain ∷ O.Office.layers below }
+{
+    Chain::over(below, u16::from(header.chain))
 }

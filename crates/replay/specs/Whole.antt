@@ -1,7 +1,10 @@
--- A whole replay: what every event of a book came to.
-use Rattle.std.specs.Prelude.{◌≡◌, ℕ, ◌+◌, List, [], ◌∷◌, ◌++◌, length, map, Option, Some, None, Result, Ok, Err}
+-- A whole replay: what the events of a book come to, worked out one by one.
+use Rattle.std.specs.Prelude.{◌≡◌, ℕ, zero, suc, ◌+◌, List, [], ◌∷◌, ◌++◌, length, map, Option, Some, None, Result, Ok, Err}
 use Rattle.shares.specs.Kind.{Kind}
 use Rattle.lending.specs.Office.{State, SetUp}
+use Rattle.lending.specs.Layers.{Layers}
+use Rattle.lending.specs.Perform.{perform}
+use Rattle.lending.specs.Play.{answer_of, state_after}
 use Rattle.lending.specs.History.{Moment, Leads, yielded, merged, recalled, lapsed}
 use Rattle.lending.specs.Promise.{Conserved}
 use Rattle.book.specs.declared.header.Header.{Header}
@@ -9,7 +12,7 @@ use Rattle.calls.specs.declared.list.Tallies.{Tallies}
 use Rattle.replay.specs.declared.fault.Fault.{Fault}
 use Rattle.replay.specs.Told.{Told, told, told_at, plain}
 use Rattle.replay.specs.Events.{Next, next}
-use Rattle.replay.specs.Events.Next.{no_call, a_call}
+use Rattle.replay.specs.Events.Next.{nothing, no_call, a_call}
 
 -- a book that doesn't open refuses the whole replay
 abbrev pub unopened : Result Header ℕ → Option Told
@@ -31,20 +34,10 @@ pub data Turn (S : Type 0) : Type 0 where
   made : (moment : Moment S) → Turn S
 
 module _ {S : Type 0} where
-  -- what the event asked for
-  abbrev pub asked_for : Turn S → Next
-  asked_for (passed n) = no_call n
-  asked_for (made m) = a_call m.call
-
-  -- what its fault tells at its place in the book, if it was refused
+  -- what the fault of a turn tells at its place in the book, if it was refused
   abbrev pub told_by : ℕ → Turn S → Option Told
   told_by event (passed n) = Some (plain event n)
   told_by event (made m) = told_at event m.answer
-
-  -- Events in a row, the last one first: each is the one that has as many before it in a book of these bytes.
-  abbrev pub InOrder : List ℕ → List (Turn S) → Type 0
-  InOrder b [] = Unit {0}
-  InOrder b (e ∷ es) = InOrder b es × (next b (length es) ≡ asked_for e)
 
   -- the calls that were made, each with the state that it came to and its answer, the last one first
   abbrev pub history : List (Turn S) → List (Moment S)
@@ -52,27 +45,42 @@ module _ {S : Type 0} where
   history (passed n ∷ es) = history es
   history (made m ∷ es) = m ∷ history es
 
-  -- what the faults of these events tell, in the order of the book, where the first event is 1
+  -- what the faults of these turns tell, in the order of the book, where the first event is 1
   abbrev pub refusals : List (Turn S) → List Told
   refusals [] = []
   refusals (e ∷ es) = refusals es ++ listed (told_by (length es + 1) e)
 
-  -- The first n events of a book of these bytes, over an office that stood for s: they left t, these faults and these tallies.
-  pub record Replay (K : Kind S) (b : List ℕ) (s : State S) (n : ℕ) (faults : List Fault) (tallies : Tallies) (t : State S) : Type 0 where
-    -- what each event came to, the last one first
-    pub turns : List (Turn S)
-    pub every : length turns ≡ n
-    pub in_order : InOrder b turns
-    -- the calls that the events asked for were made in a row
-    pub leads : Leads K s (history turns) t
-    -- the faults are those of the refused events
-    pub refused : map told faults ≡ refusals turns
-    -- what granted yields and merges, recalls, and days closed
-    pub yields : tallies.yielded ≡ yielded (history turns)
-    pub merges : tallies.merged ≡ merged (history turns)
-    pub recalls : tallies.recalled ≡ recalled (history turns)
-    pub lapses : tallies.lapsed ≡ lapsed (history turns)
-    -- The lending promise, whole: of these calls to an office that was set up empty,
-    pub from_empty : SetUp s → Conserved K (history turns) t
+  -- what granted yields and merges, recalls, and days closed
+  abbrev pub tallies_of : List (Turn S) → Tallies
+  tallies_of es = record { yielded = yielded (history es); merged = merged (history es); recalled = recalled (history es); lapsed = lapsed (history es) }
+
+module _ {S : Type 0} (K : Kind S) (layers : Layers S) where
+  -- one event more
+  abbrev pub turn_on : Next → List (Turn S) × State S → List (Turn S) × State S
+  turn_on (nothing n) p = p
+  turn_on (no_call n) p = (passed n ∷ p.0, p.1)
+  turn_on (a_call c) p = let o = perform K p.1 c in (made (record { before = p.1; call = c; answer = answer_of o }) ∷ p.0, state_after layers o p.1)
+
+  -- What the first n events of a book with these bytes come to at an office with these layers that stands for s, the last one
+  -- first, and the state that they lead to.
+  abbrev pub run : List ℕ → State S → ℕ → List (Turn S) × State S
+  run b s zero = ([], s)
+  run b s (suc n) = turn_on (next b n) (run b s n)
+
+  -- The lending promise, whole, of those events.
+  pub record RunConserved (b : List ℕ) (s : State S) (n : ℕ) : Type 0 where
+    -- The calls that they ask for are made in a row:
+    pub leads : Leads K s (history (run b s n).0) (run b s n).1
+    -- the promise holds of them, where the office was set up empty,
+    pub from_empty : SetUp s → Conserved K (history (run b s n).0) (run b s n).1
     -- and of every list of calls to such an office that these calls follow.
-    pub conserved : (start : State S) → SetUp start → (earlier : List (Moment S)) → Leads K start earlier s → Conserved K (history turns ++ earlier) t
+    pub conserved : (start : State S) → SetUp start → (earlier : List (Moment S)) → Leads K start earlier s → Conserved K (history (run b s n).0 ++ earlier) (run b s n).1
+
+  -- The first n events of a book of these bytes were replayed over an office that stood for s, which then stands for t, with
+  -- these faults and these tallies.
+  pub record Replay (b : List ℕ) (s : State S) (n : ℕ) (faults : List Fault) (tallies : Tallies) (t : State S) : Type 0 where
+    pub every : length (run b s n).0 ≡ n
+    pub leaves : t ≡ (run b s n).1
+    -- the faults are those of the refused events
+    pub refused : map told faults ≡ refusals (run b s n).0
+    pub tallied : tallies ≡ tallies_of (run b s n).0

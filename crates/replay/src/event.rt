@@ -52,6 +52,7 @@ pub(crate) fn make_event<O: Office>(
     ensures few { all_closed (kept tallies result) ≤ all_closed tallies + most_closed }
     ensures same { is_ok result ≡ false → office.new ≡ office.old }
     ensures unused { unused (O.Office.rows office.new) ≡ unused (O.Office.rows office.old) }
+    ensures layers { O.Office.layers office.new ≡ O.Office.layers office.old }
 {
     let (code, operands) = event.asked()?;
     let call = call_of(code, operands);

@@ -43,6 +43,7 @@ impl Reading {
         ensures steps { Steps O.Kind.Share.kind (next book.now self.old.done) (O.Office.meaning office.old) self.old result self.new (O.Office.meaning office.new) }
         ensures same { is_ok result ≡ false → office.new ≡ office.old }
         ensures unused { unused (O.Office.rows office.new) ≡ unused (O.Office.rows office.old) }
+        ensures layers { O.Office.layers office.new ≡ O.Office.layers office.old }
         ensures always { LendingConserved O.Kind.Share.kind }
     {
         lending_is_conserved::<O::Kind>();

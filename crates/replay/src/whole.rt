@@ -3,7 +3,7 @@ ghost use Rattle.lending.specs.Promise.{LendingConserved};
 ghost use Rattle.office.specs.Lawful.{unused};
 ghost use Rattle.book.specs.Books.{opening, count_in};
 ghost use Rattle.replay.specs.Told.{told_of};
-ghost use Rattle.replay.specs.Whole.{Replay, Opens, unopened};
+ghost use Rattle.replay.specs.Whole.{Replay, RunConserved, Opens, unopened};
 
 use crate::fault::Fault;
 use crate::session::{Finished, Reading};
@@ -27,10 +27,12 @@ pub fn replay<O: Office>(
     book: &[u8],
 ) -> Result<Result<Replayed, Fault>, AllocError>
     ensures opens { IfOk result (λ outcome. told_of outcome ≡ unopened (opening book.now)) }
-    ensures replays { IfOk result (λ outcome. IfOk outcome (λ whole. Replay O.Kind.Share.kind book.now (O.Office.meaning office.old) (count_in book.now) whole.faults.items whole.finished.closed (O.Office.meaning office.new))) }
+    ensures replays { IfOk result (λ outcome. IfOk outcome (λ whole. Replay O.Kind.Share.kind (O.Office.layers office.old) book.now (O.Office.meaning office.old) (count_in book.now) whole.faults.items whole.finished.closed (O.Office.meaning office.new))) }
+    ensures conserved { RunConserved O.Kind.Share.kind (O.Office.layers office.old) book.now (O.Office.meaning office.old) (count_in book.now) }
     ensures same { IfOk result (λ outcome. OnErr outcome (office.new ≡ office.old)) }
     ensures no_memory { OnErr result (office.new ≡ office.old) }
     ensures unused { unused (O.Office.rows office.new) ≡ unused (O.Office.rows office.old) }
+    ensures layers { O.Office.layers office.new ≡ O.Office.layers office.old }
     ensures always { LendingConserved O.Kind.Share.kind }
 {
     lending_is_conserved::<O::Kind>();
@@ -69,11 +71,11 @@ fn read_events<O: Office>(
     requires counted { events ≡ count_in book.now }
     requires none { faults.old.items ≡ [] }
     requires room { events ≤ vec_capacity faults.old }
-    ensures replays { Replay O.Kind.Share.kind book.now (O.Office.meaning office.old) events faults.new.items result.tallies (O.Office.meaning office.new) }
+    ensures replays { Replay O.Kind.Share.kind (O.Office.layers office.old) book.now (O.Office.meaning office.old) events faults.new.items result.tallies (O.Office.meaning office.new) }
     ensures done { result.done ≡ events }
     ensures unused { unused (O.Office.rows office.new) ≡ unused (O.Office.rows office.old) }
+    ensures layers { O.Office.layers office.new ≡ O.Office.layers office.old }
 {
-    lending_is_conserved::<O::Kind>();
     let mut session = Reading::new();
     for _event in 0..events {
         if let Err(fault) = session.step(office, book) {

@@ -1,4 +1,4 @@
-ghost use Rattle.std.specs.Prelude.{◌≡◌};
+ghost use Rattle.std.specs.Prelude.{◌≡◌, ◌∷◌};
 ghost use Rattle.lending.specs.Layers.{layered};
 ghost use Rattle.lending.specs.Office.{SetUp};
 ghost use Rattle.term.specs.Means.{term_objects};
@@ -20,6 +20,7 @@ impl Term {
         ensures stands { ⟦<Layer<O, Term> as Office>⟧.meaning result ≡ layered (term_objects days) (O.Office.meaning below) }
         ensures set_up { SetUp (O.Office.meaning below) → SetUp (⟦<Layer<O, Term> as Office>⟧.meaning result) }
         ensures rows { ⟦<Layer<O, Term> as Office>⟧.rows result ≡ O.Office.rows below }
+        ensures layers { ⟦<Layer<O, Term> as Office>⟧.layers result ≡ term_objects days ∷ O.Office.layers below }
     {
         Layer::new(below, Term { days })
     }

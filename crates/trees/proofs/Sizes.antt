@@ -79,8 +79,5 @@ half_range size e n = let H = halving size e n in (H.half_small, omega (arith, H
 pub half_lt : (size : ℕ) → size ≡ span (level size) → (size ≡ 1 → ⊥) → size / 2 < 64
 half_lt size e n = let H = halving size e n in omega (arith, H.small, H.half_small)
 
-pub half_less : (size : ℕ) → size ≡ span (level size) → (size ≡ 1 → ⊥) → size / 2 < size
-half_less size e n = let H = halving size e n in omega (arith, H.half_small)
-
 pub two_halves : (size : ℕ) → size ≡ span (level size) → (size ≡ 1 → ⊥) → size ≡ size / 2 + size / 2
 two_halves size e n = let H = halving size e n in omega (arith, H.half_is, H.size_is)

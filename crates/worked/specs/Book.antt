@@ -1,20 +1,21 @@
 -- A worked book: ten calls to a pile of Quota 64 on Term 30 on Chain 2 on a ledger with 1,024 rows of tree shares.
-use Rattle.std.specs.Prelude.{◌≡◌, ℕ, List, [], ◌∷◌, map, reverse, length, codes, Option}
+use Rattle.std.specs.Prelude.{◌≡◌, ℕ, List, [], ◌∷◌, map, reverse, length, codes}
 use Rattle.trees.specs.declared.trees.Trees.{Trees}
 use Rattle.trees.specs.Cells.{text_of_share, trees_kind}
 use Rattle.lending.specs.declared.lease.Lease.{Lease}
-use Rattle.lending.specs.Office.{Request, State, new_ledger}
+use Rattle.lending.specs.Office.{State, new_ledger}
 use Rattle.lending.specs.Outcome.{Call, Answer}
 use Rattle.lending.specs.Outcome.Call.{open_resource, delegate, yield, assign, recall, day}
 use Rattle.lending.specs.Outcome.Answer.{done, number, refused}
 use Rattle.lending.specs.History.{Moment, yielded, merged, recalled, lapsed}
-use Rattle.lending.specs.Play.{pile, play}
+use Rattle.lending.specs.Layers.{Layers, pile}
+use Rattle.lending.specs.Play.{play}
 use Rattle.quota.specs.Means.{quota_objects}
 use Rattle.term.specs.Means.{term_objects}
 use Rattle.chain.specs.Means.{chain_objects}
-use Rattle.listing.specs.Played.{played as printed_of}
+use Rattle.listing.specs.Tenancy.{played as printed_of}
 
-abbrev pub layers : List (List (Lease Trees) → ℕ → Request → Option ℕ)
+abbrev pub layers : Layers Trees
 layers = quota_objects 64 ∷ term_objects 30 ∷ chain_objects 2 ∷ []
 
 abbrev pub calls : List Call

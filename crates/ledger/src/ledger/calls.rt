@@ -35,7 +35,8 @@ impl<'a, S: Share> Ledger<'a, S> {
 }
 
 impl<'a, S: Share> Office for Ledger<'a, S> {
-    ghost use Rattle.ledger.specs.Lawful.{ledger_lawful};
+    ghost use Rattle.std.specs.Prelude.{[]};
+    ghost use Rattle.ledger.specs.Lawful.{ledger_lawful, ledger_follows};
     ghost use Rattle.ledger.specs.Means.{means, rows_in};
 
     type Kind = S;
@@ -44,7 +45,11 @@ impl<'a, S: Share> Office for Ledger<'a, S> {
 
     ghost rows = { rows_in };
 
+    ghost layers = { λ ledger. [] };
+
     ghost lawful = { ledger_lawful };
+
+    ghost follow = { ledger_follows };
 
     fn count(&self) -> usize {
         self.count

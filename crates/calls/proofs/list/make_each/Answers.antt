@@ -9,6 +9,7 @@ pub loop-call-init : goal.loop-call-init
 loop-call-init g c = record {
   made = none_made g.O.Kind.Share.kind c.lending_is_conserved.ensures.always (g.O.Office.meaning c.args.office.now) c.default-tallies.result (omega arith);
   unused = refl;
+  layers = refl;
 }
 
 pub count-requires : goal.count-requires
@@ -31,4 +32,5 @@ loop-call-preserved g c =
     record {
       made = rw (take_more c.args.calls.now c.loop-call.call-index (Open 0 0) c.loop-call-test.true, c.count.ensures) made;
       unused = c.make-answer.ensures.unused ∙ c.loop-call.invariant.unused;
+      layers = c.make-answer.ensures.layers ∙ c.loop-call.invariant.layers;
     }

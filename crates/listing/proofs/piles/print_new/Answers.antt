@@ -1,14 +1,20 @@
-use Rattle.std.proofs.Common.{◌≡◌, ℕ, min, IfOk, length, ap, ◌∙◌, subst, arith}
+use Rattle.std.proofs.Common.{◌≡◌, ℕ, min, IfOk, OnOk, length, ap, ◌∙◌, subst, arith}
 use Rattle.lending.specs.Office.{new_ledger}
-use Rattle.lending.specs.Play.{pile}
-use Rattle.listing.specs.Printouts.{PrintsNew}
+use Rattle.lending.specs.Layers.{pile}
+use Rattle.book.specs.Books.{count_in}
+use Rattle.replay.specs.Whole.{RunConserved}
+use Rattle.listing.specs.Printouts.{printed}
 use Rattle.listing.specs.Tenancy.{layers}
 use Rattle.listing.proofs.piles.print_new.Goals as goal
 
-pub returns : goal.returns
-returns g c =
+pub returns-clause-prints : goal.returns-clause-prints
+returns-clause-prints g c =
     let K = g.S.Share.kind in
-    let text = g.S.Printed.text in
-    let b = c.args.book.now in
     let rows : min 1024 (length c.as_mut_slice.result.now) ≡ 1024 = grind (arith, c.as_mut_slice.ensures.len, c.as_mut_slice.ensures.value, c.in_ok-rows.ensures.len) in
-    subst (λ s. IfOk c.print_over.result (λ printout. PrintsNew K text b (pile (layers c.args.header) s) printout.items)) (c.new.ensures.stands ∙ ap (λ (n : ℕ). new_ledger n) rows) c.print_over.ensures
+    subst (λ s. IfOk c.print_over.result (λ printout. printout.items ≡ printed K (layers c.args.header) g.S.Printed.text c.args.book.now (pile (layers c.args.header) s))) (c.new.ensures.stands ∙ ap (λ (n : ℕ). new_ledger n) rows) c.print_over.ensures.prints
+
+pub returns-clause-conserved : goal.returns-clause-conserved
+returns-clause-conserved g c =
+    let K = g.S.Share.kind in
+    let rows : min 1024 (length c.as_mut_slice.result.now) ≡ 1024 = grind (arith, c.as_mut_slice.ensures.len, c.as_mut_slice.ensures.value, c.in_ok-rows.ensures.len) in
+    subst (λ s. OnOk c.print_over.result (RunConserved K (layers c.args.header) c.args.book.now (pile (layers c.args.header) s) (count_in c.args.book.now))) (c.new.ensures.stands ∙ ap (λ (n : ℕ). new_ledger n) rows) c.print_over.ensures.conserved

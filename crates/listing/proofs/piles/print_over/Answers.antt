@@ -1,17 +1,25 @@
-use Rattle.std.proofs.Common.{ap, ◌∙◌}
+use Rattle.std.proofs.Common.{◌∷◌, ap, ◌∙◌}
 use Rattle.lending.specs.Layers.{layered}
 use Rattle.quota.specs.Means.{quota_objects}
 use Rattle.term.specs.Means.{term_objects}
-use Rattle.chain.specs.Means.{chain_objects}
-use Rattle.listing.proofs.Whole.{over_new}
+use Rattle.book.specs.Books.{count_in}
+use Rattle.listing.proofs.Whole.{printed_over, conserved_over}
 use Rattle.listing.proofs.piles.print_over.Goals as goal
 
-pub returns : goal.returns
-returns g c =
-    let K = g.O.Kind.Share.kind in
-    let text = g.O.Kind.Printed.text in
-    let b = c.args.book.now in
-    let h = c.args.header in
-    let s = g.O.Office.meaning c.args.below in
-    let e = c.over-office.ensures.stands ∙ ap (layered (quota_objects 64)) (c.over-term.ensures.stands ∙ ap (layered (term_objects h.term)) (c.over-chain.ensures.stands ∙ ap (λ n. layered (chain_objects n) s) c.from.ensures)) in
-    over_new K text b c.print_book.new.out.items _ e c.new-out.ensures.items c.in_ok-print_book.ensures.prints
+pub returns-clause-prints : goal.returns-clause-prints
+returns-clause-prints g c =
+    let q = quota_objects 64 in
+    let d = term_objects c.args.header.term in
+    printed_over g.O.Kind.Share.kind g.O.Kind.Printed.text c.args.book.now
+    (c.with_quota-office.ensures.layers ∙ ap (λ l. q ∷ l) (c.with_term.ensures.layers ∙ ap (λ l. d ∷ l) c.with_chain.ensures.layers))
+    (c.with_quota-office.ensures.stands ∙ ap (layered q) (c.with_term.ensures.stands ∙ ap (layered d) c.with_chain.ensures.stands))
+    c.new-out.result.items c.print_book.new.out.items c.new-out.ensures.items c.in_ok-print_book.ensures.prints
+
+pub returns-clause-conserved : goal.returns-clause-conserved
+returns-clause-conserved g c =
+    let q = quota_objects 64 in
+    let d = term_objects c.args.header.term in
+    conserved_over g.O.Kind.Share.kind g.O.Kind.Printed.text c.args.book.now
+    (c.with_quota-office.ensures.layers ∙ ap (λ l. q ∷ l) (c.with_term.ensures.layers ∙ ap (λ l. d ∷ l) c.with_chain.ensures.layers))
+    (c.with_quota-office.ensures.stands ∙ ap (layered q) (c.with_term.ensures.stands ∙ ap (layered d) c.with_chain.ensures.stands))
+    (count_in c.args.book.now) c.in_ok-print_book.ensures.conserved
