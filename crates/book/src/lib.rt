@@ -15,6 +15,3 @@ pub use event::Event;
 pub use header::Header;
 pub use limits::{EVENT, HEADER, MOST_BYTES, MOST_EVENTS, RECORD};
 pub use reason::BookReason;
-
-#[cfg(test)]
-mod tests;

@@ -1,5 +1,5 @@
 -- Calls made one after another.
-use Rattle.std.proofs.Common.{◌≡◌, ◌+◌, ◌≤◌, List, [], ◌∷◌, ◌++◌, map, refl, sym, ap, ◌∙◌, reverse, arith}
+use Rattle.std.proofs.Common.{◌≡◌, ◌+◌, ◌<◌, ◌≤◌, ◌^◌, Some, None, Option, MatchOption, List, [], ◌∷◌, ◌++◌, map, refl, sym, ap, ◌∙◌, reverse, arith}
 use Rattle.std.proofs.lemmas.List.{map-append, reverse-append}
 use Rattle.shares.specs.Kind.{Kind}
 use Rattle.lending.specs.declared.lease.Lease.{Lease}
@@ -15,7 +15,12 @@ use Rattle.office.specs.Lawful.{Lawful}
 use Rattle.calls.specs.declared.call.Call.{Call}
 use Rattle.calls.specs.declared.list.Tallies.{Tallies}
 use Rattle.calls.specs.Values.{called}
-use Rattle.calls.specs.Listed.{Made, all_closed, counted}
+use Rattle.calls.specs.Listed.{Made, all_closed, TooLarge, counted}
+
+-- tallies that are few in all are counted
+pub few_fit : (r : Option Tallies) (t : Tallies) → MatchOption r (TooLarge t) (λ after. after ≡ t) → all_closed t < 2 ^ 64 → r ≡ Some t
+few_fit None t m few = absurd (m (omega (arith, few), omega (arith, few), omega (arith, few), omega (arith, few)))
+few_fit (Some after) t m few = ap Some m
 
 module _ {S : Type 0} (K : Kind S) where
   -- before the first call

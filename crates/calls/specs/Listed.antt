@@ -1,5 +1,5 @@
 -- What a list of calls that are made in turn comes to, and what it closes.
-use Rattle.std.specs.Prelude.{◌≡◌, ℕ, ◌+◌, List, ◌++◌, map, reverse}
+use Rattle.std.specs.Prelude.{◌≡◌, ℕ, ◌+◌, ◌<◌, ◌^◌, List, ◌++◌, map, reverse}
 use Rattle.shares.specs.Kind.{Kind}
 use Rattle.lending.specs.Office.{State, SetUp}
 use Rattle.lending.specs.Outcome as office
@@ -12,6 +12,10 @@ use Rattle.calls.specs.Values.{called}
 -- how many leases were closed in all
 abbrev pub all_closed : Tallies → ℕ
 all_closed tallies = tallies.yielded + tallies.merged + tallies.recalled + tallies.lapsed
+
+-- one of them is more than a count can be
+abbrev pub TooLarge : Tallies → Type 0
+TooLarge tallies = ((tallies.yielded < 2 ^ 64) × (tallies.merged < 2 ^ 64) × (tallies.recalled < 2 ^ 64) × (tallies.lapsed < 2 ^ 64)) → ⊥
 
 module _ {S : Type 0} where
   -- the tallies with what one call more closed by its answer

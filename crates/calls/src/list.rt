@@ -1,9 +1,9 @@
 // Making a list of calls, and counting what it closes.
-ghost use Rattle.std.specs.Prelude.{◌≡◌, ◌<◌, ◌^◌};
+ghost use Rattle.std.specs.Prelude.{◌≡◌, MatchOption};
 ghost use Rattle.lending.specs.Promise.{LendingConserved};
 ghost use Rattle.office.specs.Lawful.{unused};
 ghost use Rattle.calls.specs.Values.{called, answered};
-ghost use Rattle.calls.specs.Listed.{Made, all_closed, counted};
+ghost use Rattle.calls.specs.Listed.{Made, TooLarge, counted};
 
 use crate::call::{Answer, Call};
 use crate::values::make;
@@ -21,20 +21,33 @@ pub struct Tallies {
 }
 
 impl Tallies {
-    // Counts what one call more closed, by its answer.
-    fn count<S: Share>(&mut self, call: Call, answer: Result<Answer<S>, Refusal>)
-        requires { all_closed (counted self.old (called call) (answered answer)) < 2 ^ 64 }
-        ensures { self.new ≡ counted self.old (called call) (answered answer) }
+    // The tallies with what one call more closed, by its answer; none where a count would be too large.
+    pub fn counted<S: Share>(
+        self,
+        call: Call,
+        answer: Result<Answer<S>, Refusal>,
+    ) -> Option<Tallies>
+        ensures { MatchOption result (TooLarge (counted self (called call) (answered answer))) (λ after. after ≡ counted self (called call) (answered answer)) }
     {
-        match (call, answer) {
-            (Call::Yield { .. }, Ok(Answer::Done)) => self.yielded += 1,
-            (Call::Merge { .. }, Ok(Answer::Done)) => self.merged += 1,
-            (Call::Recall { .. } | Call::HandIn { .. }, Ok(Answer::Number(closed))) => {
-                self.recalled += closed
-            }
-            (Call::Day { .. }, Ok(Answer::Number(closed))) => self.lapsed += closed,
-            _ => {}
-        }
+        Some(match (call, answer) {
+            (Call::Yield { .. }, Ok(Answer::Done)) => Tallies {
+                yielded: self.yielded.checked_add(1)?,
+                ..self
+            },
+            (Call::Merge { .. }, Ok(Answer::Done)) => Tallies {
+                merged: self.merged.checked_add(1)?,
+                ..self
+            },
+            (Call::Recall { .. } | Call::HandIn { .. }, Ok(Answer::Number(closed))) => Tallies {
+                recalled: self.recalled.checked_add(closed)?,
+                ..self
+            },
+            (Call::Day { .. }, Ok(Answer::Number(closed))) => Tallies {
+                lapsed: self.lapsed.checked_add(closed)?,
+                ..self
+            },
+            _ => self,
+        })
     }
 }
 
@@ -60,7 +73,7 @@ fn make_each<O: Office>(office: &mut O, calls: &[Call]) -> Tallies
     let mut tallies = Tallies::default();
     for call in calls {
         let answer = make(office, *call);
-        tallies.count(*call, answer);
+        tallies = tallies.counted(*call, answer).unwrap();
     }
     tallies
 }

@@ -1,5 +1,5 @@
 // Reading calls as they are written.
-ghost use Rattle.std.specs.Prelude.{◌≡◌, ℕ, List, drop, Ok, Some};
+ghost use Rattle.std.specs.Prelude.{◌≡◌, ℕ, List, [], ◌∷◌, drop, Ok, Some};
 ghost use Rattle.std.specs.Str.Iter.{split_whitespace_rest};
 ghost use Rattle.calls.specs.declared.call.Call.{Call};
 ghost use Rattle.calls.specs.Written.{name_of, numbers_of, numbered, Fit, ReadsBack, first, first_three};
@@ -55,26 +55,65 @@ fn next_number(words: &mut SplitWhitespace) -> Result<Option<u16>, NotACall>
 fn call_of(name: &str, numbers: [Option<u16>; 3]) -> Result<Call, NotACall>
     ensures { (call : Call) → name.now ≡ name_of call → numbers ≡ first_three (numbers_of call) → result ≡ Ok call }
 {
-    Ok(match (name, numbers) {
-        ("open", [Some(resource), Some(holder), None]) => Call::Open { resource, holder },
-        ("delegate", [Some(lender), Some(holder), Some(due)]) => Call::Delegate {
+    match numbers {
+        [None, None, None] => bare_call(name),
+        [Some(n), None, None] => call_of_one(name, n),
+        [Some(a), Some(b), None] => call_of_two(name, a, b),
+        [Some(lender), Some(holder), Some(due)] if name == "delegate" => Ok(Call::Delegate {
             lender,
             holder,
             due,
+        }),
+        _ => Err(NotACall),
+    }
+}
+
+// The call with this name and no number.
+fn bare_call(name: &str) -> Result<Call, NotACall>
+    ensures { (call : Call) → name.now ≡ name_of call → numbers_of call ≡ [] → result ≡ Ok call }
+{
+    Ok(match name {
+        "count" => Call::Count,
+        "issued" => Call::Issued,
+        "today" => Call::Today,
+        _ => return Err(NotACall),
+    })
+}
+
+// The call with this name and one number.
+fn call_of_one(name: &str, n: u16) -> Result<Call, NotACall>
+    ensures { (call : Call) → name.now ≡ name_of call → numbers_of call ≡ n ∷ [] → result ≡ Ok call }
+{
+    Ok(match name {
+        "yield" => Call::Yield { lease: n },
+        "set_day" => Call::SetDay { day: n },
+        "lease_at" => Call::LeaseAt { position: n },
+        "lease" => Call::LeaseOf { number: n },
+        "recall" => Call::Recall { lease: n },
+        "day" => Call::Day { day: n },
+        "hand_in" => Call::HandIn { lease: n },
+        _ => return Err(NotACall),
+    })
+}
+
+// The call with this name and two numbers.
+fn call_of_two(name: &str, a: u16, b: u16) -> Result<Call, NotACall>
+    ensures { (call : Call) → name.now ≡ name_of call → numbers_of call ≡ a ∷ b ∷ [] → result ≡ Ok call }
+{
+    Ok(match name {
+        "open" => Call::Open {
+            resource: a,
+            holder: b,
         },
-        ("yield", [Some(lease), None, None]) => Call::Yield { lease },
-        ("merge", [Some(a), Some(b), None]) => Call::Merge { a, b },
-        ("assign", [Some(lease), Some(holder), None]) => Call::Assign { lease, holder },
-        ("set_day", [Some(day), None, None]) => Call::SetDay { day },
-        ("count", [None, None, None]) => Call::Count,
-        ("issued", [None, None, None]) => Call::Issued,
-        ("today", [None, None, None]) => Call::Today,
-        ("lease_at", [Some(position), None, None]) => Call::LeaseAt { position },
-        ("lease", [Some(number), None, None]) => Call::LeaseOf { number },
-        ("recall", [Some(lease), None, None]) => Call::Recall { lease },
-        ("day", [Some(day), None, None]) => Call::Day { day },
-        ("standing", [Some(resource), Some(holder), None]) => Call::Standing { resource, holder },
-        ("hand_in", [Some(lease), None, None]) => Call::HandIn { lease },
+        "merge" => Call::Merge { a, b },
+        "assign" => Call::Assign {
+            lease: a,
+            holder: b,
+        },
+        "standing" => Call::Standing {
+            resource: a,
+            holder: b,
+        },
         _ => return Err(NotACall),
     })
 }

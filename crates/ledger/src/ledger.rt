@@ -80,7 +80,7 @@ impl<'a, S: Share> Ledger<'a, S> {
         ensures named { IfSome result (λ lease. lease.number ≡ number) }
     {
         let place = self.place(number)?;
-        Some(self.rows[place])
+        Some(self.roll()[place])
     }
 
     // The live lease at a position of the roll.

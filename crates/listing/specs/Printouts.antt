@@ -7,7 +7,7 @@ use Rattle.lending.specs.Layers.{Layers}
 use Rattle.book.specs.declared.header.Header.{Header}
 use Rattle.book.specs.Books.{opening, count_in}
 use Rattle.calls.specs.declared.list.Tallies.{Tallies}
-use Rattle.printout.specs.declared.totals.Totals.{Totals}
+use Rattle.printout.specs.declared.line.totals.Totals.{Totals}
 use Rattle.printout.specs.Lines.{refusal_line, lease_line, total_line}
 use Rattle.replay.specs.Told.{Told, plain}
 use Rattle.replay.specs.Whole.{refusals, tallies_of, run}

@@ -9,6 +9,10 @@ abbrev pub number_of : LineReason → ℕ
 number_of NoSuchPosition = 15
 number_of LineTooLong = 31
 
+-- its level: a line call stands over an office
+abbrev pub level_of : LineReason → ℕ
+level_of reason = 0
+
 -- 15 where there is no line to be written, else 31 where it is longer than the space, else its length
 abbrev pub answer_of : Option (List ℕ) → List ℕ → Result ℕ LineReason
 answer_of None space = Err NoSuchPosition

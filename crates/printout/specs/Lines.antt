@@ -7,7 +7,7 @@ use Rattle.lending.specs.Office.{State}
 use Rattle.lending.specs.Above.{standing_of}
 use Rattle.lending.specs.Promise.{Live}
 use Rattle.lending.specs.Effects.{MayWrite}
-use Rattle.printout.specs.declared.totals.Totals.{Totals}
+use Rattle.printout.specs.declared.line.totals.Totals.{Totals}
 
 -- a number in decimal, and a blank
 abbrev pub field : ℕ → List ℕ

@@ -4,13 +4,10 @@
 // that of a lease's line also that its letter tells whether the holder may write (`letters`), by the lending promise.
 #![tactic(auto)]
 
-mod leases;
 mod line;
 mod reason;
-mod refusals;
-mod totals;
 
-pub use leases::lease_line;
+pub use line::leases::lease_line;
+pub use line::refusals::refusal_line;
+pub use line::totals::{Totals, total_line};
 pub use reason::LineReason;
-pub use refusals::refusal_line;
-pub use totals::{Totals, total_line};

@@ -1,9 +1,12 @@
 ghost use Rattle.std.specs.Prelude.{◌≡◌};
-ghost use Rattle.printout.specs.Answers.{number_of};
+ghost use Rattle.printout.specs.Answers.{number_of, level_of};
 
 use thiserror::Error;
 
-// Why a line call was refused. Such a call stands over an office and is none of its calls, so that these refusals have level 0.
+// The level of a line call's refusal: such a call stands over an office and is none of its calls.
+const LEVEL: u8 = 0;
+
+// Why a line call was refused.
 #[derive(Clone, Copy, PartialEq, Eq, Debug, Drop, Error)]
 pub enum LineReason {
     #[error("there is no such position")]
@@ -18,5 +21,12 @@ impl LineReason {
         ensures { result ≡ number_of self }
     {
         self as u8
+    }
+
+    // Its level.
+    pub fn level(self) -> u8
+        ensures { result ≡ level_of self }
+    {
+        LEVEL
     }
 }

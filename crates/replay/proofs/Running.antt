@@ -123,9 +123,11 @@ module _ {S : Type 0} (K : Kind S) (layers : Layers S) where
           let a = ap (λ (w : Tallies). w.yielded) so_far.tallied in
           let d = ap (λ (w : Tallies). w.merged) so_far.tallied in
           let f = ap (λ (w : Tallies). w.recalled) so_far.tallied in
-          let g = ap (λ (w : Tallies). w.lapsed) so_far.tallied in
-          (with (made moment) (here ∙ ap (λ (w : State S). (made moment ∷ p.0, w)) (sym known.1)) (z.1.tells ∙ ap (λ (w : Answer S). told_by (x.done + 1) (made (record { before = p.1; call = c; answer = w }))) known.0)
-          (counts ∙ same_tallies (counted x.tallies c (answer_of o)) (tallies_of (made moment ∷ p.0)) (omega arith) (omega arith) (omega arith) (omega arith)), let j = z.0 in omega arith)
+          let g = ap (λ (w : Tallies). w.lapsed) so_far.tallied in (
+            with (made moment) (here ∙ ap (λ (w : State S). (made moment ∷ p.0, w)) (sym known.1)) (z.1.tells ∙ ap (λ (w : Answer S). told_by (x.done + 1) (made (record { before = p.1; call = c; answer = w }))) known.0)
+                (counts ∙ same_tallies (counted x.tallies c (answer_of o)) (tallies_of (made moment ∷ p.0)) (omega arith) (omega arith) (omega arith) (omega arith)),
+            let j = z.0 in omega arith,
+          )
 
       by_event : (e : ℕ × List ℕ) × (event_at b x.done ≡ Ok e) → Replay K layers b s (n + 1) more y.tallies u × (y.done ≡ n + 1)
       by_event found =

@@ -1,11 +1,15 @@
-ghost use Rattle.std.specs.Prelude.{◌*◌, ◌≤◌};
+ghost use Rattle.std.specs.Prelude.{◌≡◌, ◌<◌, ◌≤◌, ◌+◌, ◌*◌, ◌^◌, false, is_ok};
+ghost use Rattle.office.specs.Lawful.{unused};
+ghost use Rattle.book.specs.Events.{asked};
 ghost use Rattle.calls.specs.Listed.{all_closed};
+ghost use Rattle.replay.specs.Events.{asks};
 ghost use Rattle.replay.specs.Limits.{most_closed};
+ghost use Rattle.replay.specs.Turns.{Comes, kept};
 
-use crate::event::{make_event, next_event, none_left};
+use crate::event::{call_of, next_event, none_left};
 use crate::fault::Fault;
-use book::BookReason;
-use calls::Tallies;
+use book::{BookReason, Event};
+use calls::{Tallies, make};
 use lending::lending_is_conserved;
 use office::Office;
 
@@ -18,9 +22,7 @@ pub struct Reading {
 }
 
 impl Reading {
-    ghost use Rattle.std.specs.Prelude.{◌≡◌, false, is_ok};
     ghost use Rattle.lending.specs.Promise.{LendingConserved};
-    ghost use Rattle.office.specs.Lawful.{unused};
     ghost use Rattle.book.specs.Books.{opening};
     ghost use Rattle.replay.specs.Events.{next};
     ghost use Rattle.replay.specs.Steps.{Steps, Finishes};
@@ -79,6 +81,22 @@ impl Reading {
     }
 }
 
+// Makes the call that an event asks for, and answers the tallies with what it closed. A fault names no event.
+fn make_event<O: Office>(office: &mut O, event: Event, tallies: Tallies) -> Result<Tallies, Fault>
+    requires { all_closed tallies < 2 ^ 63 }
+    ensures comes { Comes O.Kind.Share.kind (asks (asked event.entry.code event.entry.bytes.now)) 0 (O.Office.meaning office.old) tallies result (kept tallies result) (O.Office.meaning office.new) }
+    ensures few { all_closed (kept tallies result) ≤ all_closed tallies + most_closed }
+    ensures same { is_ok result ≡ false → office.new ≡ office.old }
+    ensures unused { unused (O.Office.rows office.new) ≡ unused (O.Office.rows office.old) }
+    ensures layers { O.Office.layers office.new ≡ O.Office.layers office.old }
+{
+    let (code, operands) = event.asked()?;
+    let call = call_of(code, operands);
+    let answer = make(office, call)?;
+    let after = tallies.counted(call, Ok(answer)).unwrap();
+    Ok(after)
+}
+
 // A session that was finished, with what it counted.
 #[derive(PartialEq, Eq, Debug, Drop)]
 pub struct Finished {
@@ -88,8 +106,6 @@ pub struct Finished {
 }
 
 impl Finished {
-    ghost use Rattle.std.specs.Prelude.{◌≡◌, false};
-
     // How many leases the calls of the replay closed.
     pub fn tallies(&self) -> Tallies
         ensures { result ≡ self.now.closed }

@@ -1,8 +1,9 @@
-use Rattle.std.proofs.Common.{arith, refl, get_or, ◌∙◌}
+use Rattle.std.proofs.Common.{◌≡◌, arith, refl, sym, subst, get_or, ◌∙◌, IsSome, MatchOption}
 use Rattle.std.proofs.lemmas.List.{take_more}
 use Rattle.calls.specs.declared.call.Call.TheVariants.{Open}
-use Rattle.calls.specs.Values.{answered}
-use Rattle.calls.proofs.Making.{none_made, one_more, few_closed}
+use Rattle.calls.specs.Values.{called, answered}
+use Rattle.calls.specs.Listed.{TooLarge, counted}
+use Rattle.calls.proofs.Making.{none_made, one_more, few_closed, few_fit}
 use Rattle.calls.proofs.list.make_each.Goals as goal
 
 pub loop-call-init : goal.loop-call-init
@@ -12,15 +13,16 @@ loop-call-init g c = record {
   layers = refl;
 }
 
-pub count-requires : goal.count-requires
-count-requires g c =
+pub unwrap-tallies-requires : goal.unwrap-tallies-requires
+unwrap-tallies-requires g c =
     let K = g.O.Kind.Share.kind in
     let s = g.O.Office.meaning c.args.office.now in
     let u = g.O.Office.meaning c.make-answer.new.office in
     let call = get_or c.args.calls.now c.loop-call.call-index (Open 0 0) in
+    let after = counted c.loop-call.tallies (called call) (answered c.make-answer.result) in
     let made = one_more K c.make-answer.ensures.always s (g.O.Office.meaning c.loop-call.office) u _ call (answered c.make-answer.result) c.loop-call.tallies c.loop-call.invariant.made c.make-answer.ensures.does in
     let few = few_closed K s u _ _ (g.O.Office.lawful c.args.office.now) (g.O.Office.lawful c.make-answer.new.office) _ _ made in
-    omega arith
+    subst IsSome (sym (few_fit c.counted.result after c.counted.ensures (omega arith))) refl
 
 pub loop-call-preserved : goal.loop-call-preserved
 loop-call-preserved g c =
@@ -28,9 +30,11 @@ loop-call-preserved g c =
     let s = g.O.Office.meaning c.args.office.now in
     let u = g.O.Office.meaning c.make-answer.new.office in
     let call = get_or c.args.calls.now c.loop-call.call-index (Open 0 0) in
+    let after = counted c.loop-call.tallies (called call) (answered c.make-answer.result) in
+    let is : c.unwrap-tallies.result ≡ after = subst (λ r. MatchOption r (TooLarge after) (λ x. x ≡ after)) c.unwrap-tallies.ensures c.counted.ensures in
     let made = one_more K c.make-answer.ensures.always s (g.O.Office.meaning c.loop-call.office) u _ call (answered c.make-answer.result) c.loop-call.tallies c.loop-call.invariant.made c.make-answer.ensures.does in
     record {
-      made = rw (take_more c.args.calls.now c.loop-call.call-index (Open 0 0) c.loop-call-test.true, c.count.ensures) made;
+      made = rw (take_more c.args.calls.now c.loop-call.call-index (Open 0 0) c.loop-call-test.true, is) made;
       unused = c.make-answer.ensures.unused ∙ c.loop-call.invariant.unused;
       layers = c.make-answer.ensures.layers ∙ c.loop-call.invariant.layers;
     }

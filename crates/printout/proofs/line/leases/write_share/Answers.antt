@@ -3,7 +3,7 @@ use Rattle.std.specs.Result.{IsOk, MatchResult}
 use Rattle.std.proofs.lemmas.List.{take_at}
 use Rattle.std.proofs.lemmas.Str.{IsUtf8-from_ascii}
 use Rattle.shares.specs.Text.{in_front}
-use Rattle.printout.proofs.leases.write_share.Goals as goal
+use Rattle.printout.proofs.line.leases.write_share.Goals as goal
 
 -- the front of a space that holds a text
 front : (text before after : List ℕ) (n : ℕ) → n ≡ length text → after ≡ in_front text before → take n after ≡ text

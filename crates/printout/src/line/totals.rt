@@ -3,7 +3,7 @@ ghost use Rattle.arrayvec.specs.ArrayString.{array_string_len};
 ghost use Rattle.printout.specs.Answers.{answer_of, space_after};
 ghost use Rattle.printout.specs.Lines.{total_line};
 
-use crate::line::{Line, put, write_field, write_number};
+use super::{Line, put, write_field, write_number};
 use crate::reason::LineReason;
 
 // The totals of a printout.

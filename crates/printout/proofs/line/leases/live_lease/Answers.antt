@@ -5,7 +5,7 @@ use Rattle.printout.specs.declared.reason.LineReason.TheVariants.{NoSuchPosition
 use Rattle.printout.specs.Lines.{writes}
 use Rattle.printout.proofs.Lengths.{lines_short}
 use Rattle.printout.proofs.Reading.{lease_there}
-use Rattle.printout.proofs.leases.live_lease.Goals as goal
+use Rattle.printout.proofs.line.leases.live_lease.Goals as goal
 
 pub returns : goal.returns
 returns g c =

@@ -3,7 +3,7 @@ ghost use Rattle.arrayvec.specs.ArrayString.{array_string_len};
 ghost use Rattle.printout.specs.Answers.{answer_of, space_after};
 ghost use Rattle.printout.specs.Lines.{refusal_line, level_text};
 
-use crate::line::{Line, put, write_field, write_number};
+use super::{Line, put, write_field, write_number};
 use crate::reason::LineReason;
 
 // Writes the line of a refused event, by its place in the book, the number of the refusal, and its level if it has one.

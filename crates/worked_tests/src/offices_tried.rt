@@ -1,27 +1,15 @@
-use crate::share_tests::prints;
+use crate::{free_row, prints};
 use calls::{Call, Tallies, make, make_all};
 use chain::Chain;
 use desk::{Slip, lease_at, may_write, standing, yield_lease};
 use ledger::Ledger;
-use lending::{Lease, Refusal};
+use lending::Refusal;
 use office::Office;
 use quota::Quota;
-use shares::{Printed, Share};
+use shares::Printed;
 use std::process::Abort;
 use term::Term;
 use trees::Trees;
-
-// A row that nothing was written to.
-pub(crate) fn free_row() -> Lease<Trees> {
-    Lease {
-        number: 0,
-        resource: 0,
-        holder: 0,
-        lender: 0,
-        due: 0,
-        share: Trees::empty(),
-    }
-}
 
 // The number and the level of a refusal.
 fn refusal<T: Drop>(answer: Result<T, Refusal>) -> Option<(u8, u8)> {

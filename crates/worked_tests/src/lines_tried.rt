@@ -1,4 +1,4 @@
-use crate::office_tests::free_row;
+use crate::free_row;
 use desk::{delegate, open};
 use ledger::Ledger;
 use office::Office;

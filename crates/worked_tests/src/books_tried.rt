@@ -1,4 +1,4 @@
-use crate::{Book, BookReason, Code, Event, Header, MOST_BYTES};
+use book::{Book, BookReason, Code, Event, Header, MOST_BYTES};
 use kinds::KindOfShare;
 use std::test::Fail;
 

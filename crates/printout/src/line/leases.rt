@@ -5,7 +5,7 @@ ghost use Rattle.printout.specs.declared.reason.LineReason.TheVariants.{NoSuchPo
 ghost use Rattle.printout.specs.Answers.{answer_of, space_after};
 ghost use Rattle.printout.specs.Lines.{letter, writes, lease_text, line_at, LinesAreShort, LettersTell};
 
-use crate::line::{Line, put, write_field};
+use super::{Line, put, write_field};
 use crate::reason::LineReason;
 use desk::{lease_at, may_write};
 use lending::{Lease, lending_is_conserved};

@@ -1,15 +1,9 @@
+use crate::prints;
 use counting::Counting;
 use loans::{Round, lend_and_return};
 use shares::{Printed, Share, join_all};
 use std::test::Fail;
 use trees::Trees;
-
-// Whether a share has this text.
-pub(crate) fn prints<S: Printed>(share: S, text: &[u8]) -> bool {
-    let mut space = [0u8; 190];
-    let length = share.write(&mut space);
-    &space[0..length] == text
-}
 
 // The half kept, so many times over.
 fn kept<S: Share>(share: S, times: u16) -> Option<S> {
