@@ -10,7 +10,7 @@ use desk::{
     Slip, assign, count, delegate, issued, lease, lease_at, merge, open, recall, set_day, standing,
     today, yield_lease,
 };
-use lending::Refusal;
+use lending::{Refusal, lending_is_conserved};
 use office::Office;
 use shares::Share;
 
@@ -22,6 +22,17 @@ pub fn make<O: Office>(office: &mut O, call: Call) -> Result<Answer<O::Kind>, Re
     ensures layers { O.Office.layers office.new ≡ O.Office.layers office.old }
     ensures conserved { CallConserves O.Kind.Share.kind (O.Office.meaning office.old) (called call) (answered result) (O.Office.meaning office.new) }
     ensures always { LendingConserved O.Kind.Share.kind }
+{
+    lending_is_conserved::<O::Kind>();
+    ask(office, call)
+}
+
+// Makes the call by the function of `desk` that has its name.
+fn ask<O: Office>(office: &mut O, call: Call) -> Result<Answer<O::Kind>, Refusal>
+    ensures does { Does O.Kind.Share.kind (O.Office.meaning office.old) (called call) (answered result) (O.Office.meaning office.new) }
+    ensures same { is_ok result ≡ false → office.new ≡ office.old }
+    ensures unused { unused (O.Office.rows office.new) ≡ unused (O.Office.rows office.old) }
+    ensures layers { O.Office.layers office.new ≡ O.Office.layers office.old }
 {
     match call {
         Call::Open { resource, holder } => {

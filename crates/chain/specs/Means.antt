@@ -1,7 +1,6 @@
 -- What the rule Chain objects to.
-use Rattle.std.specs.Prelude.{ℕ, cond, ◌&&◌, List, Some, None, Option, ◌==◌, nat_le}
+use Rattle.std.specs.Prelude.{ℕ, cond, ◌&&◌, Some, None, Option, ◌==◌, nat_le}
 use Rattle.lending.specs.declared.lease.Lease.{Lease}
-use Rattle.lending.specs.Office.{Request}
 use Rattle.lending.specs.Office.Request.{opening, delegating, assigning}
 use Rattle.lending.specs.Roll.{live, height}
 use Rattle.lending.specs.Layers.{Own, number_if}

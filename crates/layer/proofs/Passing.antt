@@ -1,10 +1,9 @@
 -- What a layer passes on and up.
-use Rattle.std.proofs.Common.{◌≡◌, ℕ, List, Ok, Err, None, Option, Result, sym, subst, ap}
+use Rattle.std.proofs.Common.{◌≡◌, ℕ, Ok, Err, None, Result, sym, subst, ap}
 use Rattle.std.specs.Result.{MatchResult, IsErrAnd}
 use Rattle.shares.specs.Kind.{Kind}
-use Rattle.lending.specs.declared.lease.Lease.{Lease}
 use Rattle.lending.specs.declared.refusal.Refusal.{Refusal}
-use Rattle.lending.specs.Office.{State, Request}
+use Rattle.lending.specs.Office.{State}
 use Rattle.lending.specs.Office.Request.{opening, delegating}
 use Rattle.lending.specs.Outcome.{Call, Answer}
 use Rattle.lending.specs.Outcome.Call.{open_resource, delegate, merge}

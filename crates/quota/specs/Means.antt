@@ -1,7 +1,5 @@
 -- What the rule Quota objects to.
-use Rattle.std.specs.Prelude.{ℕ, List, Option, nat_le}
-use Rattle.lending.specs.declared.lease.Lease.{Lease}
-use Rattle.lending.specs.Office.{Request}
+use Rattle.std.specs.Prelude.{ℕ, nat_le}
 use Rattle.lending.specs.Office.Request.{opening, delegating, assigning}
 use Rattle.lending.specs.Roll.{held}
 use Rattle.lending.specs.Layers.{Own, number_if}

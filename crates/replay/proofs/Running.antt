@@ -6,11 +6,11 @@ use Rattle.std.proofs.lemmas.List.{map-append}
 use Rattle.shares.specs.Kind.{Kind}
 use Rattle.lending.specs.Office.{Core, State}
 use Rattle.lending.specs.Layers.{Layers, Follow, objections}
-use Rattle.lending.specs.Outcome.{Call, Answer, Outcome}
+use Rattle.lending.specs.Outcome.{Answer, Outcome}
 use Rattle.lending.specs.Outcome.Outcome.{refuses, tells, grants}
 use Rattle.lending.specs.Perform.{perform, Ends, Does}
 use Rattle.lending.specs.Play.{answer_of, state_after}
-use Rattle.lending.specs.History.{Moment, Leads, yielded, merged, recalled, lapsed}
+use Rattle.lending.specs.History.{Moment, Leads}
 use Rattle.lending.specs.Promise.{LendingConserved}
 use Rattle.lending.proofs.Histories.{leads_on}
 use Rattle.book.specs.declared.code.Code.{Code}
@@ -135,8 +135,8 @@ module _ {S : Type 0} (K : Kind S) (layers : Layers S) where
           by_asked (asked found.0.0 found.0.1) is (subst (λ (q : Next). Steps K q t x r y u) is steps)
 
 -- the faults with that of a step, if it was refused
-pub one_fault : (faults : List Fault) (r : Result (Unit {0}) Fault) (fault : Fault) → r ≡ Err fault → map told (faults ++ (fault ∷ [])) ≡ map told faults ++ listed (told_of r)
-one_fault faults r fault is = map-append told faults (fault ∷ []) ∙ ap (λ (q : Result (Unit {0}) Fault). map told faults ++ listed (told_of q)) (sym is)
+pub one_fault : (faults more : List Fault) (r : Result (Unit {0}) Fault) (fault : Fault) → more ≡ faults ++ (fault ∷ []) → r ≡ Err fault → map told more ≡ map told faults ++ listed (told_of r)
+one_fault faults more r fault pushed is = ap (map told) pushed ∙ map-append told faults (fault ∷ []) ∙ ap (λ (q : Result (Unit {0}) Fault). map told faults ++ listed (told_of q)) (sym is)
 
 pub no_fault : (faults : List Fault) (r : Result (Unit {0}) Fault) → ((fault : Fault) → r ≡ Err fault → ⊥) → map told faults ≡ map told faults ++ listed (told_of r)
 no_fault faults (Ok x) none = sym (append-nil (map told faults))

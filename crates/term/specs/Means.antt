@@ -1,7 +1,5 @@
 -- What the rule Term objects to.
-use Rattle.std.specs.Prelude.{ℕ, ◌+◌, List, None, Option, nat_lt}
-use Rattle.lending.specs.declared.lease.Lease.{Lease}
-use Rattle.lending.specs.Office.{Request}
+use Rattle.std.specs.Prelude.{ℕ, ◌+◌, None, nat_lt}
 use Rattle.lending.specs.Office.Request.{opening, delegating, assigning}
 use Rattle.lending.specs.Layers.{Own, number_if}
 

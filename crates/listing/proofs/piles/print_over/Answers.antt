@@ -1,25 +1,22 @@
-use Rattle.std.proofs.Common.{◌∷◌, ap, ◌∙◌}
-use Rattle.lending.specs.Layers.{layered}
 use Rattle.quota.specs.Means.{quota_objects}
 use Rattle.term.specs.Means.{term_objects}
+use Rattle.chain.specs.Means.{chain_objects}
 use Rattle.book.specs.Books.{count_in}
-use Rattle.listing.proofs.Whole.{printed_over, conserved_over}
+use Rattle.listing.proofs.Whole.{printed_over, conserved_over, three_layers, three_stand}
 use Rattle.listing.proofs.piles.print_over.Goals as goal
 
 pub returns-clause-prints : goal.returns-clause-prints
 returns-clause-prints g c =
-    let q = quota_objects 64 in
-    let d = term_objects c.args.header.term in
+    let h = c.args.header in
     printed_over g.O.Kind.Share.kind g.O.Kind.Printed.text c.args.book.now
-    (c.with_quota-office.ensures.layers ∙ ap (λ l. q ∷ l) (c.with_term.ensures.layers ∙ ap (λ l. d ∷ l) c.with_chain.ensures.layers))
-    (c.with_quota-office.ensures.stands ∙ ap (layered q) (c.with_term.ensures.stands ∙ ap (layered d) c.with_chain.ensures.stands))
+    (three_layers (quota_objects 64) (term_objects h.term) (chain_objects h.chain) _ _ _ (g.O.Office.layers c.args.below) c.with_quota-office.ensures.layers c.with_term.ensures.layers c.with_chain.ensures.layers)
+    (three_stand (quota_objects 64) (term_objects h.term) (chain_objects h.chain) _ _ _ (g.O.Office.meaning c.args.below) c.with_quota-office.ensures.stands c.with_term.ensures.stands c.with_chain.ensures.stands)
     c.new-out.result.items c.print_book.new.out.items c.new-out.ensures.items c.in_ok-print_book.ensures.prints
 
 pub returns-clause-conserved : goal.returns-clause-conserved
 returns-clause-conserved g c =
-    let q = quota_objects 64 in
-    let d = term_objects c.args.header.term in
+    let h = c.args.header in
     conserved_over g.O.Kind.Share.kind g.O.Kind.Printed.text c.args.book.now
-    (c.with_quota-office.ensures.layers ∙ ap (λ l. q ∷ l) (c.with_term.ensures.layers ∙ ap (λ l. d ∷ l) c.with_chain.ensures.layers))
-    (c.with_quota-office.ensures.stands ∙ ap (layered q) (c.with_term.ensures.stands ∙ ap (layered d) c.with_chain.ensures.stands))
+    (three_layers (quota_objects 64) (term_objects h.term) (chain_objects h.chain) _ _ _ (g.O.Office.layers c.args.below) c.with_quota-office.ensures.layers c.with_term.ensures.layers c.with_chain.ensures.layers)
+    (three_stand (quota_objects 64) (term_objects h.term) (chain_objects h.chain) _ _ _ (g.O.Office.meaning c.args.below) c.with_quota-office.ensures.stands c.with_term.ensures.stands c.with_chain.ensures.stands)
     (count_in c.args.book.now) c.in_ok-print_book.ensures.conserved

@@ -22,7 +22,7 @@ loop-event-preserved g c =
     let grows : map told c.match-step.faults.items ≡ map told c.loop-event.faults.items ++ listed (told_of c.step.result) = elim c.match-step.branch [
       | in-Err w ↦
           let pushed = rw w.unwrap.ensures at w.push.ensures.items in
-          rw w.faults-is (ap (map told) pushed ∙ one_fault c.loop-event.faults.items c.step.result w.in-Err.fault w.in-Err.is)
+          rw w.faults-is (one_fault c.loop-event.faults.items w.push.new.self.items c.step.result w.in-Err.fault pushed w.in-Err.is)
       | in_default w ↦ rw w.faults-is (no_fault c.loop-event.faults.items c.step.result w.in_default.not-Err)
     ] in
     let layers = c.step.ensures.layers ∙ inv.layers in
