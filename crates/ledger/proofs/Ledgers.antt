@@ -16,7 +16,7 @@ use Rattle.ledger.proofs.Fronts.{orderly_take}
 use Rattle.ledger.proofs.Gaps.{gap_roll, gap_rest}
 
 module _ {S : Type 0} where
-  same_core : (xs ys : List (Lease S)) (i d c e : ℕ) → xs ≡ ys → c ≡ e → ◌≡◌ {A = Core S} (record { roll = xs; issued = i; today = d; capacity = c; depth = 0 }) (record { roll = ys; issued = i; today = d; capacity = e; depth = 0 })
+  pub same_core : (xs ys : List (Lease S)) (i d c e : ℕ) → xs ≡ ys → c ≡ e → ◌≡◌ {A = Core S} (record { roll = xs; issued = i; today = d; capacity = c; depth = 0 }) (record { roll = ys; issued = i; today = d; capacity = e; depth = 0 })
   same_core xs ys i d c e p q = ap (λ (r : List (Lease S)). record { roll = r; issued = i; today = d; capacity = c; depth = 0 }) p ∙ ap (λ (r : ℕ). record { roll = ys; issued = i; today = d; capacity = r; depth = 0 }) q
 
   -- a ledger whose rows became another list of as many

@@ -1,6 +1,8 @@
-use Rattle.std.proofs.Common.{refl}
+use Rattle.std.proofs.Common.{min, length, take, set, refl, ap}
+use Rattle.lending.specs.Limits.{most_rows}
+use Rattle.lending.specs.Roll.{change}
 use Rattle.ledger.proofs.Places.{stays}
-use Rattle.ledger.proofs.Ledgers.{stands, row_length, row_roll, row_rest}
+use Rattle.ledger.proofs.Ledgers.{same_core, stands, row_length, row_roll, row_rest}
 use Rattle.ledger.proofs.ledger.Ledger.rewrite.Goals as goal
 
 pub invariant_of-self : goal.invariant_of-self
@@ -21,7 +23,11 @@ returns-in-Some g c =
     let x = c.args.lease in
     let k = c.in-Some.place in
     let f = c.in-Some.ensures in
-    stands _ l _ (row_roll l x.number k x f) (row_length l x.number k x f) (row_rest l x.number k x f)
+    let len = row_length l x.number k x f in
+    record {
+      core = same_core (take l.count (set l.rows.now k x)) (change x.number (λ o. x) (take l.count l.rows.now)) l.issued l.today (min most_rows (length (set l.rows.now k x))) (min most_rows (length l.rows.now)) (row_roll l x.number k x f) (ap (min most_rows) len);
+      rest = row_rest l x.number k x f;
+    }
 
 pub returns-in_default : goal.returns-in_default
 returns-in_default g c = stands _ _ _ (stays c.args.lease.number (λ l. c.args.lease) _ c.in_default.ensures) refl refl
