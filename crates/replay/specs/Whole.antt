@@ -79,6 +79,7 @@ module _ {S : Type 0} (K : Kind S) (layers : Layers S) where
   -- The first n events of a book of these bytes were replayed over an office that stood for s, which then stands for t, with
   -- these faults and these tallies.
   pub record Replay (b : List ℕ) (s : State S) (n : ℕ) (faults : List Fault) (tallies : Tallies) (t : State S) : Type 0 where
+    -- every event came to something
     pub every : length (run b s n).0 ≡ n
     pub leaves : t ≡ (run b s n).1
     -- the faults are those of the refused events
