@@ -1,5 +1,5 @@
 // Lines of a printout, each added to some bytes.
-ghost use Rattle.std.specs.Prelude.{◌≡◌, ◌<◌, ◌++◌, length, flat_map, map, IfOk, OnOk};
+ghost use Rattle.std.specs.Prelude.{◌≡◌, ◌<◌, ◌++◌, length, map, OnOk};
 ghost use Rattle.printout.specs.Lines.{line_at, total_line};
 ghost use Rattle.replay.specs.Told.{told};
 ghost use Rattle.listing.specs.Printouts.{line_of, lease_lines, refusal_lines, totals_of, added};

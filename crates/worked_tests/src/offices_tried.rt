@@ -9,7 +9,6 @@ use quota::Quota;
 use shares::Printed;
 use std::process::Abort;
 use term::Term;
-use trees::Trees;
 
 // The number and the level of a refusal.
 fn refusal<T: Drop>(answer: Result<T, Refusal>) -> Option<(u8, u8)> {
