@@ -82,8 +82,8 @@ where
     Ok(out)
 }
 
-// The layers of a book's office, each in a function of its own, so that a wrong number is refused where it stands.
-
+// Quota over an office. Each layer of a book's office is made in a function of its own, so that a wrong number is refused where
+// it stands.
 fn with_quota<O: Office>(below: O) -> Layer<O, Quota>
     ensures stands { ⟦<Layer<O, Quota> as Office>⟧.meaning result ≡ layered (quota_objects 64) (O.Office.meaning below) }
     ensures layers { ⟦<Layer<O, Quota> as Office>⟧.layers result ≡ quota_objects 64 ∷ O.Office.layers below }
@@ -91,6 +91,7 @@ fn with_quota<O: Office>(below: O) -> Layer<O, Quota>
     Quota::over(below, QUOTA)
 }
 
+// Term over an office, with the number in the book's header.
 fn with_term<O: Office>(below: O, header: Header) -> Layer<O, Term>
     ensures stands { ⟦<Layer<O, Term> as Office>⟧.meaning result ≡ layered (term_objects header.term) (O.Office.meaning below) }
     ensures layers { ⟦<Layer<O, Term> as Office>⟧.layers result ≡ term_objects header.term ∷ O.Office.layers below }
@@ -98,6 +99,7 @@ fn with_term<O: Office>(below: O, header: Header) -> Layer<O, Term>
     Term::over(below, header.term)
 }
 
+// Chain over an office, with the number in the book's header.
 fn with_chain<O: Office>(below: O, header: Header) -> Layer<O, Chain>
     ensures stands { ⟦<Layer<O, Chain> as Office>⟧.meaning result ≡ layered (chain_objects header.chain) (O.Office.meaning below) }
     ensures layers { ⟦<Layer<O, Chain> as Office>⟧.layers result ≡ chain_objects header.chain ∷ O.Office.layers below }
