@@ -6,7 +6,7 @@ use lib.ListN.{get_elem?}
 use Rattle.lending.specs.declared.lease.Lease.{Lease}
 use Rattle.shares.specs.Kind.{Kind}
 use Rattle.lending.specs.Office.{Refusal, Request, State, issue, with_roll, with_today}
-use Rattle.lending.specs.Outcome.{Call, Answer, Outcome, unless, unless_objected, need_live, need_halves, tell_at}
+use Rattle.lending.specs.Outcome.{Call, Answer, Outcome, refused_at, unless, unless_objected, need_live, need_halves, tell_at}
 use Rattle.lending.specs.Roll.{find, is_open, lends, change, with_holder}
 use Rattle.lending.specs.Perform.{perform, Ends}
 use Rattle.lending.specs.Limits.{within_range}
@@ -15,7 +15,11 @@ use Rattle.lending.specs.Office.Request.{opening, delegating, assigning}
 use Rattle.lending.specs.Outcome.Call.{open_resource, delegate, yield, merge, assign, new_day, ask_count, ask_issued, ask_today, ask_lease_at, ask_lease, recall, day, standing, hand_in}
 use Rattle.lending.specs.Outcome.Answer.{done, number, lease, refused}
 use Rattle.lending.specs.Outcome.Outcome.{refuses, tells, grants}
-use Rattle.lending.specs.Layers.{up, deeper, layered, own_or_raised, raise, passed_up, Passes, LayerIsOffice}
+use Rattle.lending.specs.Layers.{deeper, layered, own_or_raised, raise, passed_up, Passes, LayerIsOffice}
+
+-- an office one deeper refuses one level further up
+one_up : (depth n : ℕ) → refused_at (depth + 1) n ≡ raise (refused_at depth n)
+one_up depth n = ap (λ (l : ℕ). let r : Refusal = record { number = n; level = l } in r) (omega arith)
 
 module _ {S : Type 0} where
   -- the five things, one level further up
@@ -28,20 +32,20 @@ module _ {S : Type 0} where
     up_tells : {a b : Answer S} → b ≡ passed_up a → Up (tells a) (tells b)
     up_grants : {a b : Answer S} {u v : State S} → b ≡ passed_up a → Lifted u v → Up (grants a u) (grants b v)
 
-  up_unless : (level : ℕ) (cs : List (Bool × ℕ)) (o p : Outcome S) → Up o p → Up (unless level cs o) (unless (up level) cs p)
+  up_unless : (level : ℕ) (cs : List (Bool × ℕ)) (o p : Outcome S) → Up o p → Up (unless level cs o) (unless (level + 1) cs p)
   up_unless level [] o p h = h
   up_unless level (c ∷ cs) o p h = go c.0 (up_unless level cs o p h)
     where
-      go : (b : Bool) → Up (unless level cs o) (unless (up level) cs p) → Up (cond b (refuses (record { number = c.1; level = level })) (unless level cs o)) (cond b (refuses (record { number = c.1; level = up level })) (unless (up level) cs p))
-      go true k = up_refuses refl
+      go : (b : Bool) → Up (unless level cs o) (unless (level + 1) cs p) → Up (cond b (refuses (refused_at level c.1)) (unless level cs o)) (cond b (refuses (refused_at (level + 1) c.1)) (unless (level + 1) cs p))
+      go true k = up_refuses (one_up level c.1)
       go false k = k
 
-  up_live : (level : ℕ) (o : Option (Lease S)) (f g : Lease S → Outcome S) → ((l : Lease S) → Up (f l) (g l)) → Up (need_live level o f) (need_live (up level) o g)
-  up_live level None f g h = up_refuses refl
+  up_live : (level : ℕ) (o : Option (Lease S)) (f g : Lease S → Outcome S) → ((l : Lease S) → Up (f l) (g l)) → Up (need_live level o f) (need_live (level + 1) o g)
+  up_live level None f g h = up_refuses (one_up level 6)
   up_live level (Some l) f g h = h l
 
-  up_halves : (level : ℕ) (o : Option (S × S)) (f g : S → S → Outcome S) → ((a b : S) → Up (f a b) (g a b)) → Up (need_halves level o f) (need_halves (up level) o g)
-  up_halves level None f g h = up_refuses refl
+  up_halves : (level : ℕ) (o : Option (S × S)) (f g : S → S → Outcome S) → ((a b : S) → Up (f a b) (g a b)) → Up (need_halves level o f) (need_halves (level + 1) o g)
+  up_halves level None f g h = up_refuses (one_up level 8)
   up_halves level (Some p) f g h = h p.0 p.1
 
   up_objected : (mine : Option ℕ) (below : Option Refusal) (o p : Outcome S) → mine ≡ None → Up o p → Up (unless_objected below o) (unless_objected (own_or_raised mine below) p)
@@ -49,8 +53,8 @@ module _ {S : Type 0} where
   up_objected None (Some r) o p e h = up_refuses refl
   up_objected (Some n) below o p e h = absurd (let z : ◌≡◌ {A = ℕ} 0 1 = cc in omega arith)
 
-  up_at : (level : ℕ) (o : maybe.Option (Lease S)) → Up (tell_at level o) (tell_at (up level) o)
-  up_at level maybe.none = up_refuses refl
+  up_at : (level : ℕ) (o : maybe.Option (Lease S)) → Up (tell_at level o) (tell_at (level + 1) o)
+  up_at level maybe.none = up_refuses (one_up level 15)
   up_at level (maybe.some l) = up_tells refl
 
   ends_up : (mine : List (Lease S) → ℕ → Request → Option ℕ) (s t : State S) (a : Answer S) {o p : Outcome S} → Up o p → Ends o s a t → Ends p (layered mine s) (passed_up a) (layered mine t)
@@ -69,7 +73,7 @@ module _ {S : Type 0} where
     grown a u v e l = up_grants e l
 
     up_open : (r h : ℕ) → mine s.core.roll s.core.today (opening r h) ≡ None → Up (perform K s (open_resource r h)) (perform K over (open_resource r h))
-    up_open r h e = up_objected (mine s.core.roll s.core.today (opening r h)) (s.objections (opening r h)) (unless s.core.depth checks (grants (number (s.core.issued + 1)) u)) (unless (up s.core.depth) checks (grants (number (s.core.issued + 1)) v)) e
+    up_open r h e = up_objected (mine s.core.roll s.core.today (opening r h)) (s.objections (opening r h)) (unless s.core.depth checks (grants (number (s.core.issued + 1)) u)) (unless (s.core.depth + 1) checks (grants (number (s.core.issued + 1)) v)) e
         (up_unless s.core.depth checks (grants (number (s.core.issued + 1)) u) (grants (number (s.core.issued + 1)) v) (grown (number (s.core.issued + 1)) u v refl refl))
       where
         checks : List (Bool × ℕ)
@@ -82,9 +86,9 @@ module _ {S : Type 0} where
         v = issue (first_lease K (s.core.issued + 1) r h) over
 
     up_delegate : (p h d : ℕ) → mine s.core.roll s.core.today (delegating p h d) ≡ None → Up (perform K s (delegate p h d)) (perform K over (delegate p h d))
-    up_delegate p h d e = up_objected (mine s.core.roll s.core.today (delegating p h d)) (s.objections (delegating p h d)) (need_live s.core.depth (find s.core.roll p) (whole s)) (need_live (up s.core.depth) (find s.core.roll p) (whole over)) e
+    up_delegate p h d e = up_objected (mine s.core.roll s.core.today (delegating p h d)) (s.objections (delegating p h d)) (need_live s.core.depth (find s.core.roll p) (whole s)) (need_live (s.core.depth + 1) (find s.core.roll p) (whole over)) e
         (up_live s.core.depth (find s.core.roll p) (whole s) (whole over) (λ l.
-        up_unless s.core.depth (checks₁ l) (need_halves s.core.depth (K.halve l.share) (halved s l)) (need_halves (up s.core.depth) (K.halve l.share) (halved over l))
+        up_unless s.core.depth (checks₁ l) (need_halves s.core.depth (K.halve l.share) (halved s l)) (need_halves (s.core.depth + 1) (K.halve l.share) (halved over l))
         (up_halves s.core.depth (K.halve l.share) (halved s l) (halved over l) (λ kept lent.
         up_unless s.core.depth checks₂ (out s l kept lent) (out over l kept lent) (grown (number (s.core.issued + 1)) (lent_out s l h d kept lent) (lent_out over l h d kept lent) refl refl)))))
       where
@@ -126,7 +130,7 @@ module _ {S : Type 0} where
         first z x = need_live z.core.depth (find s.core.roll b) (second z x)
 
     up_assign : (n h : ℕ) → mine s.core.roll s.core.today (assigning n h) ≡ None → Up (perform K s (assign n h)) (perform K over (assign n h))
-    up_assign n h e = up_objected (mine s.core.roll s.core.today (assigning n h)) (s.objections (assigning n h)) (need_live s.core.depth (find s.core.roll n) (out s)) (need_live (up s.core.depth) (find s.core.roll n) (out over)) e
+    up_assign n h e = up_objected (mine s.core.roll s.core.today (assigning n h)) (s.objections (assigning n h)) (need_live s.core.depth (find s.core.roll n) (out s)) (need_live (s.core.depth + 1) (find s.core.roll n) (out over)) e
         (up_live s.core.depth (find s.core.roll n) (out s) (out over) (λ l. up_unless s.core.depth (checks l) (grants done (held s)) (grants done (held over)) (grown done (held s) (held over) refl refl)))
       where
         checks : Lease S → List (Bool × ℕ)

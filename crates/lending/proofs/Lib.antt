@@ -19,5 +19,7 @@ pub mod Exactness
 pub mod Layering
 pub mod Order
 pub mod Plays
+pub mod Choosing
 pub mod Histories
 mod Reasons
+pub mod Idling

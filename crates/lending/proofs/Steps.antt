@@ -8,7 +8,7 @@ use Rattle.std.proofs.lemmas.Bool.{eqb-true, eqb-false, eq-eqb, ne_eqb, cond-tru
 use Rattle.lending.specs.declared.lease.Lease.{Lease}
 use Rattle.shares.specs.Kind.{Kind, Laws, then}
 use Rattle.lending.specs.Office.{Refusal, State, issue, with_roll, with_today}
-use Rattle.lending.specs.Outcome.{Call, Answer, Outcome, unless, unless_objected, need_live, need_halves, tell_at, and_then, answering}
+use Rattle.lending.specs.Outcome.{Call, Answer, Outcome, refused_at, unless, unless_objected, need_live, need_halves, tell_at, and_then, answering}
 use Rattle.lending.specs.Roll.{find, live, change, close, lends, is_open, with_share, with_holder, plus, family}
 use Rattle.lending.specs.Above.{yields, downward, recall_all}
 use Rattle.lending.specs.Calls.{due_by, do_yield, do_set_day, first_lease, bad_due_day, unlike, lent_out, given_back, merged_into, numbers_out, rows_full, bad_day}
@@ -45,19 +45,19 @@ module _ {S : Type 0} (P : Outcome S → Type 0) (base : (r : Refusal) → P (re
   by_objection (Some r) k p = base r
 
   pub by_live : (level : ℕ) (o : Option (Lease S)) (f : Lease S → Outcome S) → ((l : Lease S) → o ≡ Some l → P (f l)) → P (need_live level o f)
-  by_live level None f h = base (record { number = 6; level = level })
+  by_live level None f h = base (refused_at level 6)
   by_live level (Some l) f h = h l refl
 
   pub by_halves : (level : ℕ) (o : Option (S × S)) (f : S → S → Outcome S) → ((a b : S) → o ≡ Some (a, b) → P (f a b)) → P (need_halves level o f)
-  by_halves level None f h = base (record { number = 8; level = level })
+  by_halves level None f h = base (refused_at level 8)
   by_halves level (Some p) f h = h p.0 p.1 refl
 
   pub by_checks : (level : ℕ) (cs : List (Bool × ℕ)) (k : Outcome S) → (Passed cs → P k) → P (unless level cs k)
   by_checks level [] k h = h tt
   by_checks level (c ∷ cs) k h = go c.0 refl (λ f. by_checks level cs k f)
     where
-      go : (b : Bool) → c.0 ≡ b → ((Passed cs → P k) → P (unless level cs k)) → P (cond b (refuses (record { number = c.1; level = level })) (unless level cs k))
-      go true e below = base (record { number = c.1; level = level })
+      go : (b : Bool) → c.0 ≡ b → ((Passed cs → P k) → P (unless level cs k)) → P (cond b (refuses (refused_at level c.1)) (unless level cs k))
+      go true e below = base (refused_at level c.1)
       go false e below = below (λ f. h (e, f))
 
 module _ {S : Type 0} (K : Kind S) (L : Laws K) where

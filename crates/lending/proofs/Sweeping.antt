@@ -7,7 +7,7 @@ use Rattle.std.proofs.lemmas.Bool.{eqb-true, eq-eqb, ne_eqb, cond-false, or_righ
 use Rattle.lending.specs.declared.lease.Lease.{Lease}
 use Rattle.shares.specs.Kind.{Kind}
 use Rattle.lending.specs.Office.{Core, State, with_roll, with_today}
-use Rattle.lending.specs.Outcome.{Outcome, unless, need_live, and_then, answering}
+use Rattle.lending.specs.Outcome.{Outcome, refused_at, unless, need_live, and_then, answering}
 use Rattle.lending.specs.Roll.{find, change, close, lends, family, with_share}
 use Rattle.lending.specs.Above.{yields, downward}
 use Rattle.lending.specs.Calls.{do_yield, do_set_day, given_back, due_by, bad_day}
@@ -168,7 +168,7 @@ module _ {S : Type 0} (K : Kind S) (P : List (Lease S) → ℕ → Type 0) (W : 
 
     granted : do_yield K s n ≡ grants done (given_back K s l)
     granted = ap (λ (o : Option (Lease S)). need_live s.core.depth o (λ y. unless s.core.depth ((lends s.core.roll n, 9) ∷ []) (grants done (given_back K s y)))) (ap (find s.core.roll) (sym is) ∙ in_find 0 s.core.roll (W.rising s.core.roll s.core.issued H.has) l ml)
-        ∙ cond-false (lends s.core.roll n) (refuses (record { number = 9; level = s.core.depth })) (grants done (given_back K s l)) none_b
+        ∙ cond-false (lends s.core.roll n) (refuses (refused_at s.core.depth 9)) (grants done (given_back K s l)) none_b
 
     next : yields K s (n ∷ ns) ≡ yields K (given_back K s l) ns
     next = ap (λ (o : Outcome S). and_then o (λ t. yields K t ns)) granted
@@ -308,8 +308,8 @@ module _ {S : Type 0} (K : Kind S) (P : List (Lease S) → ℕ → Type 0) (W : 
     pub day_set : (v : State S) → v.core ≡ due_granted.after.core → bad_day s d ≡ false → do_set_day v d ≡ grants done (with_today d v)
     day_set v at good =
         let today : v.core.today ≡ s.core.today = ap (λ (k : Core S). k.today) (at ∙ due_granted.core) in
-        cond-false (bad_day v d) (refuses (record { number = 13; level = v.core.depth })) (unless v.core.depth ((list_any (due_by d) v.core.roll, 14) ∷ []) (grants done (with_today d v))) (ap (λ (k : ℕ). nat_lt d k || nat_lt last_day d) today ∙ good)
-        ∙ cond-false (list_any (due_by d) v.core.roll) (refuses (record { number = 14; level = v.core.depth })) (grants done (with_today d v))
+        cond-false (bad_day v d) (refuses (refused_at v.core.depth 13)) (unless v.core.depth ((list_any (due_by d) v.core.roll, 14) ∷ []) (grants done (with_today d v))) (ap (λ (k : ℕ). nat_lt d k || nat_lt last_day d) today ∙ good)
+        ∙ cond-false (list_any (due_by d) v.core.roll) (refuses (refused_at v.core.depth 14)) (grants done (with_today d v))
         (some_is_none (due_by d) v.core.roll (λ x m e. let a = leb-true x.due d e in let b = none_due x (subst (λ (k : Core S). Memᴰ x k.roll) at m) in omega arith))
 
     pub day_performs : bad_day s d ≡ false → perform K s (day d) ≡ grants (number (length (downward (filter (due_by d) s.core.roll)))) (with_today d due_granted.after)

@@ -15,10 +15,10 @@ use Rattle.lending.specs.Outcome.Call.{recall, standing, hand_in}
 use Rattle.lending.specs.Outcome.Answer.{number, share, refused}
 use Rattle.lending.specs.Outcome.Outcome.{refuses, tells, grants}
 use Rattle.lending.specs.History.{Moment, Leads, lent, yielded, merged, recalled as recalled_in, lapsed, closings, closed_between}
-use Rattle.lending.specs.Effects.{TakenBack, EveryRecallTakesBack, EveryHandInTakesBack, EveryDayComes, EveryStandingTells}
+use Rattle.lending.specs.Effects.{TakenBack, EveryRecallTakesBack, EveryHandInTakesBack, EveryDayComes, EveryStandingJoins, EveryStandingTells}
 use Rattle.lending.specs.Promise.{Returned, Conserved, LendingConserved, EveryCallConserves}
 use Rattle.lending.proofs.Rolls.{find_in}
-use Rattle.lending.proofs.Invariant.{Inv, writes_when_alone, alone_when_writes}
+use Rattle.lending.proofs.Invariant.{Inv, standing_part, writes_when_alone, alone_when_writes}
 use Rattle.lending.proofs.Families.{family_joins}
 use Rattle.lending.proofs.Numbers.{Has, has_live, hasnt_live, has_or_not}
 use Rattle.lending.proofs.Steps.{Step, Good, good}
@@ -215,6 +215,14 @@ module _ {S : Type 0} (K : Kind S) (L : Laws K) where
 
 pub every_call_conserves : {S : Type 0} (K : Kind S) → Laws K → EveryCallConserves K
 every_call_conserves K L s c a t does = record { after = λ start up ms leads. lending_conserved K L start t up (record { before = s; call = c; answer = a } ∷ ms) (leads, does) }
+
+pub every_standing_joins : {S : Type 0} (K : Kind S) → Laws K → EveryStandingJoins K
+every_standing_joins {S} K L s resource holder x does = record {
+  after = λ start up ms leads.
+      let part = standing_part K L (kept K L start up ms s leads).inv resource holder in
+      let is : x ≡ unwrap_or (standing_of K s.core.roll resource holder) K.empty = (let e = does.0 in cc) in
+      part.1 ∙ ap Some (sym (is ∙ ap (λ (o : Option S). unwrap_or o K.empty) part.1));
+}
 
 pub every_standing_tells : {S : Type 0} (K : Kind S) → Laws K → EveryStandingTells K
 every_standing_tells K L s resource holder x may does is = record {

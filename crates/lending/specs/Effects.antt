@@ -10,6 +10,7 @@ use Rattle.lending.specs.Outcome.{Answer}
 use Rattle.lending.specs.Outcome.Call.{recall, day, standing, hand_in}
 use Rattle.lending.specs.Outcome.Answer.{number, share}
 use Rattle.lending.specs.Calls.{due_by}
+use Rattle.lending.specs.Above.{standing_of}
 use Rattle.lending.specs.Perform.{Does}
 use Rattle.lending.specs.History.{Moment, Leads, lent}
 use Rattle.lending.specs.Promise.{Live, Open, NobodyElse, Gains, CallConserves}
@@ -60,6 +61,11 @@ module _ {S : Type 0} where
   pub record DayComes (K : Kind S) (s : State S) (d : ℕ) (t : State S) : Type 0 where
     pub after : (start : State S) → SetUp start → (ms : List (Moment S)) → Leads K start ms s → DayCame K ms s t d
 
+  -- Whatever list of calls led to s from an office that was set up empty, the holder's shares do join, to x. So the empty share,
+  -- which the definition has for shares that don't join, is never answered in their place.
+  pub record StandingJoins (K : Kind S) (s : State S) (resource holder : ℕ) (x : S) : Type 0 where
+    pub after : (start : State S) → SetUp start → (ms : List (Moment S)) → Leads K start ms s → standing_of K s.core.roll resource holder ≡ Some x
+
   -- Whether a holder may write: exactly if its standing is the whole. In an open resource, whatever list of calls led to s from
   -- an office that was set up empty, that is so exactly if nobody else has a lease of it.
   pub record MayWrite (K : Kind S) (s : State S) (resource holder : ℕ) (may : Bool) : Type 0 where
@@ -69,7 +75,7 @@ module _ {S : Type 0} where
     pub exactly : T may ↔ (joined ≡ K.whole)
     pub alone : (start : State S) → SetUp start → (ms : List (Moment S)) → Leads K start ms s → Open s resource → T may ↔ NobodyElse s resource holder
 
-  -- So it is with every recall, every hand-in and every day that is granted.
+  -- So it is with every recall, every hand-in and every day that is granted, and with every standing.
   abbrev pub EveryRecallTakesBack : Kind S → Type 0
   EveryRecallTakesBack K = (s t : State S) (n : ℕ) (a : Answer S) → Does K s (recall n) a t → TakesBack K s n t
 
@@ -78,6 +84,9 @@ module _ {S : Type 0} where
 
   abbrev pub EveryDayComes : Kind S → Type 0
   EveryDayComes K = (s t : State S) (d k : ℕ) → Does K s (day d) (number k) t → DayComes K s d t
+
+  abbrev pub EveryStandingJoins : Kind S → Type 0
+  EveryStandingJoins K = (s : State S) (resource holder : ℕ) (x : S) → Does K s (standing resource holder) (share x) s → StandingJoins K s resource holder x
 
   abbrev pub EveryStandingTells : Kind S → Type 0
   EveryStandingTells K = (s : State S) (resource holder : ℕ) (x : S) (may : Bool) → Does K s (standing resource holder) (share x) s → T may ↔ (x ≡ K.whole) → MayWrite K s resource holder may

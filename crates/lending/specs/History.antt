@@ -41,6 +41,11 @@ module _ {S : Type 0} where
   Leads K start [] t = t ≡ start
   Leads K start (m ∷ ms) t = Leads K start ms m.before × Does K m.before m.call m.answer t
 
+  -- of each state to which a call of the list came
+  abbrev pub EachCameTo : (State S → Type 0) → List (Moment S) → Type 0
+  EachCameTo Of [] = Unit {0}
+  EachCameTo Of (m ∷ ms) = Of m.before × EachCameTo Of ms
+
   -- by the number that was answered; otherwise x
   abbrev pub if_number : {X : Type 0} → Answer S → (ℕ → X) → X → X
   if_number done f x = x

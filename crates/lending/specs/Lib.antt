@@ -13,3 +13,5 @@ pub mod Orderly
 pub mod Layers
 pub mod Play
 pub mod Told
+pub mod Idle
+pub mod Choice

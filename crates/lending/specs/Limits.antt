@@ -21,6 +21,6 @@ last_number = 60000
 abbrev pub most_rows : ℕ
 most_rows = 1024
 
--- nobody piles more layers, and no level is above it
+-- nobody piles more layers, and no level is above their number
 abbrev pub most_layers : ℕ
 most_layers = 255

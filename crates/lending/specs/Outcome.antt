@@ -1,7 +1,8 @@
 -- The calls, how a call ends, and the checks that refuse one.
-use Rattle.std.specs.Prelude.{ℕ, Bool, cond, List, [], ◌∷◌, Some, None, Option}
+use Rattle.std.specs.Prelude.{ℕ, min, Bool, cond, List, [], ◌∷◌, Some, None, Option}
 use Rattle.std.proofs.Math.Option as maybe
 use Rattle.lending.specs.declared.lease.Lease.{Lease}
+use Rattle.lending.specs.Limits.{most_layers}
 use Rattle.lending.specs.Office.{Refusal, State}
 
 -- The calls of every office, its questions, and the calls that stand over any office.
@@ -36,11 +37,16 @@ pub data Outcome (S : Type 0) : Type 0 where
   tells : Answer S → Outcome S
   grants : Answer S → State S → Outcome S
 
+-- An office of this depth refuses with this number: the level is the depth. Nobody piles more than 255 layers, and there the
+-- levels end.
+abbrev pub refused_at : ℕ → ℕ → Refusal
+refused_at depth n = record { number = n; level = min depth most_layers }
+
 module _ {S : Type 0} where
-  -- Checks, each with its refusal's number. The first that fails refuses, at the level given.
+  -- Checks, each with its refusal's number. The first that fails refuses, as an office of this depth does.
   abbrev pub unless : ℕ → List (Bool × ℕ) → Outcome S → Outcome S
-  unless level [] o = o
-  unless level (c ∷ cs) o = cond c.0 (refuses (record { number = c.1; level = level })) (unless level cs o)
+  unless depth [] o = o
+  unless depth (c ∷ cs) o = cond c.0 (refuses (refused_at depth c.1)) (unless depth cs o)
 
   -- an objection comes before the numbered checks
   abbrev pub unless_objected : Option Refusal → Outcome S → Outcome S
@@ -49,18 +55,18 @@ module _ {S : Type 0} where
 
   -- 6: the lease is not live
   abbrev pub need_live : ℕ → Option (Lease S) → (Lease S → Outcome S) → Outcome S
-  need_live level None f = refuses (record { number = 6; level = level })
-  need_live level (Some l) f = f l
+  need_live depth None f = refuses (refused_at depth 6)
+  need_live depth (Some l) f = f l
 
   -- 8: the share does not halve
   abbrev pub need_halves : ℕ → Option (S × S) → (S → S → Outcome S) → Outcome S
-  need_halves level None f = refuses (record { number = 8; level = level })
-  need_halves level (Some h) f = f h.0 h.1
+  need_halves depth None f = refuses (refused_at depth 8)
+  need_halves depth (Some h) f = f h.0 h.1
 
   -- 15: there is no such position
   abbrev pub tell_at : ℕ → maybe.Option (Lease S) → Outcome S
-  tell_at level maybe.none = refuses (record { number = 15; level = level })
-  tell_at level (maybe.some l) = tells (lease l)
+  tell_at depth maybe.none = refuses (refused_at depth 15)
+  tell_at depth (maybe.some l) = tells (lease l)
 
   -- after a granted call go on with what the office then stands for; a refusal ends it
   abbrev pub and_then : Outcome S → (State S → Outcome S) → Outcome S

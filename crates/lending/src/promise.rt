@@ -1,5 +1,6 @@
 ghost use Rattle.lending.specs.Promise.{LendingConserved, EveryCallConserves};
-ghost use Rattle.lending.specs.Effects.{EveryRecallTakesBack, EveryHandInTakesBack, EveryDayComes, EveryStandingTells};
+ghost use Rattle.lending.specs.Choice.{CallsLeaveNoChoice, ListsLeaveNoChoice};
+ghost use Rattle.lending.specs.Effects.{EveryRecallTakesBack, EveryHandInTakesBack, EveryDayComes, EveryStandingJoins, EveryStandingTells};
 ghost use Rattle.lending.specs.Exact.{CallsExact};
 ghost use Rattle.lending.specs.Layers.{LayerIsOffice};
 ghost use Rattle.lending.specs.Play.{PlaysAreHistories};
@@ -16,6 +17,13 @@ pub fn lending_is_conserved<S: Share>()
     ensures hand_ins { EveryHandInTakesBack S.kind }
     ensures days { EveryDayComes S.kind }
     ensures standings { EveryStandingTells S.kind }
+    ensures joins { EveryStandingJoins S.kind }
+{}
+
+// States that a call, and a list of calls, has one result.
+pub fn calls_leave_no_choice<S: Share>()
+    ensures calls { CallsLeaveNoChoice S.kind }
+    ensures lists { ListsLeaveNoChoice S.kind }
 {}
 
 // States what the definitions of the calls rest on, of every state that calls reach.

@@ -1,4 +1,4 @@
-use Rattle.lending.proofs.Theorem.{lending_conserved, every_call_conserves, every_recall_takes_back, every_hand_in_takes_back, every_day_comes, every_standing_tells}
+use Rattle.lending.proofs.Theorem.{lending_conserved, every_call_conserves, every_recall_takes_back, every_hand_in_takes_back, every_day_comes, every_standing_joins, every_standing_tells}
 use Rattle.lending.proofs.promise.lending_is_conserved.Goals as goal
 
 pub returns : goal.returns
@@ -12,4 +12,5 @@ returns g c =
       hand_ins = every_hand_in_takes_back K L;
       days = every_day_comes K L;
       standings = every_standing_tells K L;
+      joins = every_standing_joins K L;
     }
