@@ -21,6 +21,7 @@ impl Chain {
         ensures stands { ⟦<Layer<O, Chain> as Office>⟧.meaning result ≡ layered (chain_objects limit) (O.Office.meaning below) }
         ensures set_up { SetUp (O.Office.meaning below) → SetUp (⟦<Layer<O, Chain> as Office>⟧.meaning result) }
         ensures rows { ⟦<Layer<O, Chain> as Office>⟧.rows result ≡ O.Office.rows below }
+        ensures lent { ⟦<Layer<O, Chain> as Office>⟧.lent result ≡ O.Office.lent below }
         ensures layers { ⟦<Layer<O, Chain> as Office>⟧.layers result ≡ chain_objects limit ∷ O.Office.layers below }
     {
         Layer::new(below, Chain { limit })

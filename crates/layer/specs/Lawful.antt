@@ -1,6 +1,6 @@
 -- A layer over a lawful office is lawful, and its objections follow from its layers if those below do.
 -- A proof, which nobody need read: it stands in specs/ because the implementation names it, and no contract cites it.
-use Rattle.std.specs.Prelude.{◌≡◌, ℕ, ◌≤◌, List, ◌∷◌, Some, None, Option}
+use Rattle.std.specs.Prelude.{◌≡◌, ℕ, ◌+◌, ◌<◌, List, ◌∷◌, Some, None, Option}
 use Rattle.std.proofs.Common.{refl, ap, arith}
 use Rattle.lending.specs.declared.lease.Lease.{Lease}
 use Rattle.lending.specs.Office.{Refusal, State, Request}
@@ -12,9 +12,9 @@ abbrev level_of : Option Refusal → ℕ
 level_of None = 0
 level_of (Some f) = f.level
 
-below_depth : (depth : ℕ) (mine : Option ℕ) (below : Option Refusal) (r : Refusal) → ((f : Refusal) → below ≡ Some f → up f.level ≤ depth) → own_or_raised mine below ≡ Some r → up r.level ≤ up depth
+below_depth : (depth : ℕ) (mine : Option ℕ) (below : Option Refusal) (r : Refusal) → ((f : Refusal) → below ≡ Some f → f.level < depth) → own_or_raised mine below ≡ Some r → r.level < depth + 1
 below_depth depth (Some n) below r h e = let k : 0 ≡ r.level = ap level_of e in omega arith
-below_depth depth None None r h e = cc
+below_depth depth None None r h e = absurd (let z : ◌≡◌ {A = ℕ} 0 1 = cc in omega arith)
 below_depth depth None (Some f) r h e = let k : up f.level ≡ r.level = ap level_of e in let l = h f refl in omega arith
 
 pub layer_lawful : {O R S : Type 0} (means : O → State S) (rows : O → List (Lease S)) (objects : R → Own S) → ((o : O) → Lawful (means o) (rows o)) → (layer : Layer O R) → Lawful (layered (objects layer.rule) (means layer.below)) (rows layer.below)
@@ -28,7 +28,7 @@ layer_lawful means rows objects lawful layer =
       numbers = l.numbers;
       days = l.days;
       orderly = l.orderly;
-      levels = λ q r e. below_depth s.core.depth (objects layer.rule s.core.roll s.core.today q) (s.objections q) r (l.levels q) e;
+      levels = λ few q r e. below_depth s.core.depth (objects layer.rule s.core.roll s.core.today q) (s.objections q) r (l.levels (omega arith) q) e;
     }
 
 pub layer_follows : {O R S : Type 0} (means : O → State S) (layers : O → Layers S) (objects : R → Own S) → ((o : O) → Follow (layers o) (means o)) → (layer : Layer O R) → Follow (objects layer.rule ∷ layers layer.below) (layered (objects layer.rule) (means layer.below))

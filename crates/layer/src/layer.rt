@@ -7,7 +7,7 @@ ghost use Rattle.layer.specs.Lawful.{layer_lawful, layer_follows};
 
 use crate::rule::{Request, Rule};
 use lending::{Lease, Refusal};
-use office::Office;
+use office::{Office, Piled};
 
 // An office over another, which objects by a rule.
 #[derive(Drop)]
@@ -22,6 +22,7 @@ impl<O: Office, R: Rule<O>> Layer<O, R> {
         ensures stands { ⟦<Layer<O, R> as Office>⟧.meaning result ≡ layered (R.Rule.objects rule) (O.Office.meaning below) }
         ensures set_up { SetUp (O.Office.meaning below) → SetUp (⟦<Layer<O, R> as Office>⟧.meaning result) }
         ensures rows { ⟦<Layer<O, R> as Office>⟧.rows result ≡ O.Office.rows below }
+        ensures lent { ⟦<Layer<O, R> as Office>⟧.lent result ≡ O.Office.lent below }
         ensures layers { ⟦<Layer<O, R> as Office>⟧.layers result ≡ R.Rule.objects rule ∷ O.Office.layers below }
     {
         Layer { below, rule }
@@ -34,6 +35,7 @@ impl<O: Office, R: Rule<O>> Layer<O, R> {
         ensures is { result ≡ self.below }
         ensures stands { ⟦<Layer<O, R> as Office>⟧.meaning self ≡ layered (R.Rule.objects self.rule) (O.Office.meaning result) }
         ensures rows { ⟦<Layer<O, R> as Office>⟧.rows self ≡ O.Office.rows result }
+        ensures lent { ⟦<Layer<O, R> as Office>⟧.lent self ≡ O.Office.lent result }
         ensures layers { ⟦<Layer<O, R> as Office>⟧.layers self ≡ R.Rule.objects self.rule ∷ O.Office.layers result }
     {
         let Layer { below, .. } = self;
@@ -58,11 +60,11 @@ impl<O: Office, R: Rule<O>> Office for Layer<O, R> {
 
     ghost rows = { λ layer. O.Office.rows layer.below };
 
+    ghost lent = { λ layer. O.Office.lent layer.below };
+
     ghost layers = { λ layer. R.Rule.objects layer.rule ∷ O.Office.layers layer.below };
 
     ghost lawful = { layer_lawful O.Office.meaning O.Office.rows R.Rule.objects O.Office.lawful };
-
-    ghost follow = { layer_follows O.Office.meaning O.Office.layers R.Rule.objects O.Office.follow };
 
     fn count(&self) -> usize {
         self.below.count()
@@ -119,4 +121,8 @@ impl<O: Office, R: Rule<O>> Office for Layer<O, R> {
     fn set_day(&mut self, day: u16) -> Result<(), Refusal> {
         self.below.set_day(day).map_err(Refusal::raised)
     }
+}
+
+impl<O: Piled, R: Rule<O>> Piled for Layer<O, R> {
+    ghost follow = { layer_follows O.Office.meaning O.Office.layers R.Rule.objects O.Piled.follow };
 }

@@ -15,7 +15,7 @@ ledger_lawful l = record {
   numbers = l.numbers;
   days = l.days;
   orderly = l.orderly;
-  levels = λ q r e. absurd (let z : ◌≡◌ {A = ℕ} 0 1 = cc in omega arith);
+  levels = λ few q r e. absurd (let z : ◌≡◌ {A = ℕ} 0 1 = cc in omega arith);
 }
 
 pub ledger_follows : {S : Type 0} (l : Ledger S) → Follow [] (means l)

@@ -1,5 +1,5 @@
 -- What a ledger stands for.
-use Rattle.std.specs.Prelude.{◌≡◌, min, List, length, take, None}
+use Rattle.std.specs.Prelude.{◌≡◌, ℕ, min, List, length, take, None}
 use Rattle.lending.specs.declared.lease.Lease.{Lease}
 use Rattle.lending.specs.Limits.{most_rows}
 use Rattle.lending.specs.Office.{Core, State}
@@ -24,7 +24,12 @@ module _ {S : Type 0} where
   abbrev pub rows_in : Ledger S → List (Lease S)
   rows_in l = l.rows.now
 
+  -- the name of the borrow of its rows
+  abbrev pub lent_to : Ledger S → ℕ
+  lent_to l = l.rows.ghost_name
+
   -- the ledger `was` has become l, which stands for this, with the same rows
   pub record Stands (l was : Ledger S) (c : Core S) : Type 0 where
     pub core : (means l).core ≡ c
     pub rest : unused (rows_in l) ≡ unused (rows_in was)
+    pub lent : lent_to l ≡ lent_to was

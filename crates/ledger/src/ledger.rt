@@ -33,13 +33,14 @@ impl<'a, S: Share> Ledger<'a, S> {
     ghost use Rattle.lending.specs.Roll.{find, is_open, lends, change, close, with_holder};
     ghost use Rattle.lending.specs.Calls.{rows_full, first_lease, lent_out, given_back, merged_into, bad_due_day, due_by, unlike};
     ghost use Rattle.ledger.specs.Rows.{At, Looked};
-    ghost use Rattle.ledger.specs.Means.{means, rows_in, Stands};
+    ghost use Rattle.ledger.specs.Means.{means, rows_in, lent_to, Stands};
 
     // A ledger over these rows, set up empty: no leases, nothing issued, and today is day 0.
     pub fn new(rows: &'a mut [Lease<S>]) -> Ledger<'a, S>
         ensures stands { means result ≡ new_ledger (min most_rows (length rows.old)) }
         ensures set_up { SetUp (means result) }
         ensures rows { rows_in result ≡ rows.old }
+        ensures lent { lent_to result ≡ rows.entry.ghost_name }
     {
         Ledger {
             rows,
@@ -52,6 +53,7 @@ impl<'a, S: Share> Ledger<'a, S> {
     // Ends the ledger and gives its rows back, as they are: the roll stands in the first of them.
     pub fn into_rows(self) -> &'a mut [Lease<S>]
         ensures rows { result.now ≡ rows_in self.entry }
+        ensures lent { result.ghost_name ≡ lent_to self.entry }
         ensures roll { take (length (means self.entry).core.roll) result.now ≡ (means self.entry).core.roll }
     {
         let Ledger { rows, .. } = self;

@@ -1,10 +1,9 @@
 -- What holds of every state that an office can have, and of the rows that were lent to it.
-use Rattle.std.specs.Prelude.{◌≡◌, ◌≤◌, min, List, length, take, drop, Some}
+use Rattle.std.specs.Prelude.{◌≡◌, ◌<◌, ◌≤◌, min, List, length, take, drop, Some}
 use Rattle.lending.specs.declared.lease.Lease.{Lease}
-use Rattle.lending.specs.Limits.{last_day, last_number, most_rows}
+use Rattle.lending.specs.Limits.{last_day, last_number, most_rows, most_layers}
 use Rattle.lending.specs.Office.{Refusal, Request, State}
 use Rattle.lending.specs.Orderly.{Orderly}
-use Rattle.lending.specs.Layers.{up}
 
 module _ {S : Type 0} where
   -- the rows that an office never uses
@@ -20,5 +19,5 @@ module _ {S : Type 0} where
     pub numbers : s.core.issued ≤ last_number
     pub days : s.core.today ≤ last_day
     pub orderly : ∥ Orderly s.core.roll s.core.issued ∥₁
-    -- an objection's level is below the depth: raised once more, it is at most the depth
-    pub levels : (q : Request) (r : Refusal) → s.objections q ≡ Some r → up r.level ≤ s.core.depth
+    -- an objection's level is below the depth, in every pile of up to 255 layers
+    pub levels : s.core.depth ≤ most_layers → (q : Request) (r : Refusal) → s.objections q ≡ Some r → r.level < s.core.depth

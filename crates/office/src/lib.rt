@@ -4,6 +4,8 @@
 
 mod live;
 mod office;
+mod piled;
 
 pub use live::{LiveLeases, leases};
 pub use office::Office;
+pub use piled::Piled;

@@ -1,6 +1,6 @@
-ghost use Rattle.std.specs.Prelude.{◌≡◌, false, List, is_ok};
+ghost use Rattle.std.specs.Prelude.{◌≡◌, ℕ, false, List, is_ok};
 ghost use Rattle.lending.specs.declared.lease.Lease.{Lease};
-ghost use Rattle.lending.specs.Layers.{Layers, Follow};
+ghost use Rattle.lending.specs.Layers.{Layers};
 ghost use Rattle.lending.specs.Office.{State};
 ghost use Rattle.lending.specs.Outcome.Call.{open_resource, delegate, yield, merge, assign, new_day, ask_count, ask_issued, ask_today, ask_lease_at, ask_lease};
 ghost use Rattle.lending.specs.Outcome.Answer.{number};
@@ -24,14 +24,14 @@ pub trait Office {
     // What the rows hold that were lent to its ledger.
     ghost rows: { Self → List (Lease Self.Kind) };
 
+    // The name of the borrow of those rows.
+    ghost lent: { Self → ℕ };
+
     // What each of its layers objects to by itself, the outermost first.
     ghost layers: { Self → Layers Self.Kind };
 
     // What holds of every state of an office.
     ghost lawful: { (o : Self) → Lawful (meaning o) (rows o) };
-
-    // Its objections follow from its layers.
-    ghost follow: { (o : Self) → Follow (layers o) (meaning o) };
 
     // How many leases are live.
     fn count(&self) -> usize
@@ -58,40 +58,46 @@ pub trait Office {
         ensures does { Does Self.Kind.Share.kind (meaning self.old) (open_resource resource holder) (told_number result) (meaning self.new) }
         ensures same { is_ok result ≡ false → self.new ≡ self.old }
         ensures unused { unused (rows self.new) ≡ unused (rows self.old) }
-        ensures layers { layers self.new ≡ layers self.old };
+        ensures layers { layers self.new ≡ layers self.old }
+        ensures lent { lent self.new ≡ lent self.old };
 
     // Lends half of a lease's share to a holder, until a day. Answers the new lease's number.
     fn delegate(&mut self, lender: u16, holder: u16, due: u16) -> Result<u16, Refusal>
         ensures does { Does Self.Kind.Share.kind (meaning self.old) (delegate lender holder due) (told_number result) (meaning self.new) }
         ensures same { is_ok result ≡ false → self.new ≡ self.old }
         ensures unused { unused (rows self.new) ≡ unused (rows self.old) }
-        ensures layers { layers self.new ≡ layers self.old };
+        ensures layers { layers self.new ≡ layers self.old }
+        ensures lent { lent self.new ≡ lent self.old };
 
     // Closes a lease, and joins its share to its lender's.
     fn yield_lease(&mut self, lease: u16) -> Result<(), Refusal>
         ensures does { Does Self.Kind.Share.kind (meaning self.old) (yield lease) (told result) (meaning self.new) }
         ensures same { is_ok result ≡ false → self.new ≡ self.old }
         ensures unused { unused (rows self.new) ≡ unused (rows self.old) }
-        ensures layers { layers self.new ≡ layers self.old };
+        ensures layers { layers self.new ≡ layers self.old }
+        ensures lent { lent self.new ≡ lent self.old };
 
     // Closes lease b; lease a gets both shares, and lends what b lent.
     fn merge(&mut self, a: u16, b: u16) -> Result<(), Refusal>
         ensures does { Does Self.Kind.Share.kind (meaning self.old) (merge a b) (told result) (meaning self.new) }
         ensures same { is_ok result ≡ false → self.new ≡ self.old }
         ensures unused { unused (rows self.new) ≡ unused (rows self.old) }
-        ensures layers { layers self.new ≡ layers self.old };
+        ensures layers { layers self.new ≡ layers self.old }
+        ensures lent { lent self.new ≡ lent self.old };
 
     // Changes the holder of a lease.
     fn assign(&mut self, lease: u16, holder: u16) -> Result<(), Refusal>
         ensures does { Does Self.Kind.Share.kind (meaning self.old) (assign lease holder) (told result) (meaning self.new) }
         ensures same { is_ok result ≡ false → self.new ≡ self.old }
         ensures unused { unused (rows self.new) ≡ unused (rows self.old) }
-        ensures layers { layers self.new ≡ layers self.old };
+        ensures layers { layers self.new ≡ layers self.old }
+        ensures lent { lent self.new ≡ lent self.old };
 
     // Changes today.
     fn set_day(&mut self, day: u16) -> Result<(), Refusal>
         ensures does { Does Self.Kind.Share.kind (meaning self.old) (new_day day) (told result) (meaning self.new) }
         ensures same { is_ok result ≡ false → self.new ≡ self.old }
         ensures unused { unused (rows self.new) ≡ unused (rows self.old) }
-        ensures layers { layers self.new ≡ layers self.old };
+        ensures layers { layers self.new ≡ layers self.old }
+        ensures lent { lent self.new ≡ lent self.old };
 }

@@ -21,6 +21,7 @@ impl Quota {
         ensures stands { ⟦<Layer<O, Quota> as Office>⟧.meaning result ≡ layered (quota_objects limit) (O.Office.meaning below) }
         ensures set_up { SetUp (O.Office.meaning below) → SetUp (⟦<Layer<O, Quota> as Office>⟧.meaning result) }
         ensures rows { ⟦<Layer<O, Quota> as Office>⟧.rows result ≡ O.Office.rows below }
+        ensures lent { ⟦<Layer<O, Quota> as Office>⟧.lent result ≡ O.Office.lent below }
         ensures layers { ⟦<Layer<O, Quota> as Office>⟧.layers result ≡ quota_objects limit ∷ O.Office.layers below }
     {
         Layer::new(below, Quota { limit })

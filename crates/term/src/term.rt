@@ -20,6 +20,7 @@ impl Term {
         ensures stands { ⟦<Layer<O, Term> as Office>⟧.meaning result ≡ layered (term_objects days) (O.Office.meaning below) }
         ensures set_up { SetUp (O.Office.meaning below) → SetUp (⟦<Layer<O, Term> as Office>⟧.meaning result) }
         ensures rows { ⟦<Layer<O, Term> as Office>⟧.rows result ≡ O.Office.rows below }
+        ensures lent { ⟦<Layer<O, Term> as Office>⟧.lent result ≡ O.Office.lent below }
         ensures layers { ⟦<Layer<O, Term> as Office>⟧.layers result ≡ term_objects days ∷ O.Office.layers below }
     {
         Layer::new(below, Term { days })

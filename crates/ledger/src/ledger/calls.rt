@@ -5,7 +5,7 @@ ghost use Rattle.lending.specs.Calls.{unlike};
 
 use crate::ledger::Ledger;
 use lending::{HIGHEST_NAME, LAST_DAY, Lease, MOST_NUMBERS, Reason, Refusal};
-use office::Office;
+use office::{Office, Piled};
 use shares::Share;
 
 // Whether a resource or a holder is in range.
@@ -36,8 +36,8 @@ impl<'a, S: Share> Ledger<'a, S> {
 
 impl<'a, S: Share> Office for Ledger<'a, S> {
     ghost use Rattle.std.specs.Prelude.{[]};
-    ghost use Rattle.ledger.specs.Lawful.{ledger_lawful, ledger_follows};
-    ghost use Rattle.ledger.specs.Means.{means, rows_in};
+    ghost use Rattle.ledger.specs.Lawful.{ledger_lawful};
+    ghost use Rattle.ledger.specs.Means.{means, rows_in, lent_to};
 
     type Kind = S;
 
@@ -45,11 +45,11 @@ impl<'a, S: Share> Office for Ledger<'a, S> {
 
     ghost rows = { rows_in };
 
+    ghost lent = { lent_to };
+
     ghost layers = { λ ledger. [] };
 
     ghost lawful = { ledger_lawful };
-
-    ghost follow = { ledger_follows };
 
     fn count(&self) -> usize {
         self.count
@@ -152,4 +152,10 @@ impl<'a, S: Share> Office for Ledger<'a, S> {
         self.today = day;
         Ok(())
     }
+}
+
+impl<'a, S: Share> Piled for Ledger<'a, S> {
+    ghost use Rattle.ledger.specs.Lawful.{ledger_follows};
+
+    ghost follow = { ledger_follows };
 }

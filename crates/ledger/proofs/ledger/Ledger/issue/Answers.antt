@@ -1,4 +1,4 @@
-use Rattle.std.proofs.Common.{◌++◌, [], ◌∷◌, take, arith, length-set, drop-set-lt}
+use Rattle.std.proofs.Common.{◌≡◌, refl, ◌++◌, [], ◌∷◌, take, arith, length-set, drop-set-lt}
 use Rattle.std.proofs.lemmas.List.{take_more_set}
 use Rattle.ledger.proofs.Ledgers.{stands, not_full}
 use Rattle.ledger.proofs.ledger.Ledger.issue.Goals as goal
@@ -11,3 +11,4 @@ returns-clause-stands g c =
     (take_more_set l.rows.now l.count c.args.lease (omega arith))
     (simp length-set)
     (drop-set-lt 1024 l.rows.now l.count c.args.lease (omega arith))
+    (let same : l.rows.ghost_name ≡ l.rows.ghost_name = refl in same)

@@ -1,4 +1,4 @@
-use Rattle.std.proofs.Common.{arith}
+use Rattle.std.proofs.Common.{◌≡◌, refl, arith}
 use Rattle.lending.specs.Roll.{relend, with_share, plus}
 use Rattle.lending.proofs.Order.{share_stays}
 use Rattle.ledger.proofs.Ledgers.{stands}
@@ -19,5 +19,5 @@ invariant_of-self g c = record {
 pub returns : goal.returns
 returns g c =
     after (over (relend c.args.a.number c.args.b.number))
-    (stands _ c.rewrite.new.self _ (united_roll c.rewrite.new.self c.args.a c.args.b c.relend.new.roll c.relend.ensures) (united_length c.rewrite.new.self c.args.a c.args.b c.relend.new.roll c.relend.ensures) (united_unused c.rewrite.new.self c.args.a c.args.b c.relend.new.roll c.relend.ensures))
+    (stands _ c.rewrite.new.self _ (united_roll c.rewrite.new.self c.args.a c.args.b c.relend.new.roll c.relend.ensures) (united_length c.rewrite.new.self c.args.a c.args.b c.relend.new.roll c.relend.ensures) (united_unused c.rewrite.new.self c.args.a c.args.b c.relend.new.roll c.relend.ensures) (let same : c.rewrite.new.self.rows.ghost_name ≡ c.rewrite.new.self.rows.ghost_name = refl in same))
     (both c.args.self.now c.close.new.self c.rewrite.new.self c.args.a c.args.b c.join_or_keep-share.result (plus g.S.Share.kind c.args.a.share c.args.b.share) c.requires.a c.requires.b c.requires.order c.requires.alike c.join_or_keep-share.ensures c.close.ensures c.rewrite.ensures)
