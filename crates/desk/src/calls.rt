@@ -15,6 +15,7 @@ pub fn open<O: Office>(office: &mut O, resource: u16, holder: u16) -> Result<u16
     ensures same { is_ok result ≡ false → office.new ≡ office.old }
     ensures unused { unused (O.Office.rows office.new) ≡ unused (O.Office.rows office.old) }
     ensures layers { O.Office.layers office.new ≡ O.Office.layers office.old }
+    ensures lent { O.Office.lent office.new ≡ O.Office.lent office.old }
     ensures conserved { CallConserves O.Kind.Share.kind (O.Office.meaning office.old) (open_resource resource holder) (told_number result) (O.Office.meaning office.new) }
     ensures always { LendingConserved O.Kind.Share.kind }
 {
@@ -33,6 +34,7 @@ pub fn delegate<O: Office>(
     ensures same { is_ok result ≡ false → office.new ≡ office.old }
     ensures unused { unused (O.Office.rows office.new) ≡ unused (O.Office.rows office.old) }
     ensures layers { O.Office.layers office.new ≡ O.Office.layers office.old }
+    ensures lent { O.Office.lent office.new ≡ O.Office.lent office.old }
     ensures conserved { CallConserves O.Kind.Share.kind (O.Office.meaning office.old) (delegate lender holder due) (told_number result) (O.Office.meaning office.new) }
     ensures always { LendingConserved O.Kind.Share.kind }
 {
@@ -46,6 +48,7 @@ pub fn yield_lease<O: Office>(office: &mut O, lease: u16) -> Result<(), Refusal>
     ensures same { is_ok result ≡ false → office.new ≡ office.old }
     ensures unused { unused (O.Office.rows office.new) ≡ unused (O.Office.rows office.old) }
     ensures layers { O.Office.layers office.new ≡ O.Office.layers office.old }
+    ensures lent { O.Office.lent office.new ≡ O.Office.lent office.old }
     ensures conserved { CallConserves O.Kind.Share.kind (O.Office.meaning office.old) (yield lease) (told result) (O.Office.meaning office.new) }
     ensures always { LendingConserved O.Kind.Share.kind }
 {
@@ -59,6 +62,7 @@ pub fn merge<O: Office>(office: &mut O, a: u16, b: u16) -> Result<(), Refusal>
     ensures same { is_ok result ≡ false → office.new ≡ office.old }
     ensures unused { unused (O.Office.rows office.new) ≡ unused (O.Office.rows office.old) }
     ensures layers { O.Office.layers office.new ≡ O.Office.layers office.old }
+    ensures lent { O.Office.lent office.new ≡ O.Office.lent office.old }
     ensures conserved { CallConserves O.Kind.Share.kind (O.Office.meaning office.old) (merge a b) (told result) (O.Office.meaning office.new) }
     ensures always { LendingConserved O.Kind.Share.kind }
 {
@@ -72,6 +76,7 @@ pub fn assign<O: Office>(office: &mut O, lease: u16, holder: u16) -> Result<(), 
     ensures same { is_ok result ≡ false → office.new ≡ office.old }
     ensures unused { unused (O.Office.rows office.new) ≡ unused (O.Office.rows office.old) }
     ensures layers { O.Office.layers office.new ≡ O.Office.layers office.old }
+    ensures lent { O.Office.lent office.new ≡ O.Office.lent office.old }
     ensures conserved { CallConserves O.Kind.Share.kind (O.Office.meaning office.old) (assign lease holder) (told result) (O.Office.meaning office.new) }
     ensures always { LendingConserved O.Kind.Share.kind }
 {
@@ -85,6 +90,7 @@ pub fn set_day<O: Office>(office: &mut O, day: u16) -> Result<(), Refusal>
     ensures same { is_ok result ≡ false → office.new ≡ office.old }
     ensures unused { unused (O.Office.rows office.new) ≡ unused (O.Office.rows office.old) }
     ensures layers { O.Office.layers office.new ≡ O.Office.layers office.old }
+    ensures lent { O.Office.lent office.new ≡ O.Office.lent office.old }
     ensures conserved { CallConserves O.Kind.Share.kind (O.Office.meaning office.old) (new_day day) (told result) (O.Office.meaning office.new) }
     ensures always { LendingConserved O.Kind.Share.kind }
 {

@@ -20,6 +20,7 @@ pub fn day<O: Office>(office: &mut O, day: u16) -> Result<usize, Refusal>
     ensures same { is_ok result ≡ false → office.new ≡ office.old }
     ensures unused { unused (O.Office.rows office.new) ≡ unused (O.Office.rows office.old) }
     ensures layers { O.Office.layers office.new ≡ O.Office.layers office.old }
+    ensures lent { O.Office.lent office.new ≡ O.Office.lent office.old }
     ensures conserved { CallConserves O.Kind.Share.kind (O.Office.meaning office.old) (next_day day) (told_number result) (O.Office.meaning office.new) }
     ensures always { LendingConserved O.Kind.Share.kind }
 {
@@ -37,6 +38,7 @@ fn move_to<O: Office>(office: &mut O, day: u16) -> usize
     ensures does { Does O.Kind.Share.kind (O.Office.meaning office.old) (next_day day) (number result) (O.Office.meaning office.new) }
     ensures unused { unused (O.Office.rows office.new) ≡ unused (O.Office.rows office.old) }
     ensures layers { O.Office.layers office.new ≡ O.Office.layers office.old }
+    ensures lent { O.Office.lent office.new ≡ O.Office.lent office.old }
 {
     let numbers = due_of(office, day);
     yield_down(office, numbers.as_slice());

@@ -21,6 +21,7 @@ pub fn recall<O: Office>(office: &mut O, lease: u16) -> Result<usize, Refusal>
     ensures same { is_ok result ≡ false → office.new ≡ office.old }
     ensures unused { unused (O.Office.rows office.new) ≡ unused (O.Office.rows office.old) }
     ensures layers { O.Office.layers office.new ≡ O.Office.layers office.old }
+    ensures lent { O.Office.lent office.new ≡ O.Office.lent office.old }
     ensures conserved { CallConserves O.Kind.Share.kind (O.Office.meaning office.old) (recall lease) (told_number result) (O.Office.meaning office.new) }
     ensures always { LendingConserved O.Kind.Share.kind }
 {
@@ -38,6 +39,7 @@ fn take_back<O: Office>(office: &mut O, lease: u16) -> usize
     ensures does { Does O.Kind.Share.kind (O.Office.meaning office.old) (recall lease) (number result) (O.Office.meaning office.new) }
     ensures unused { unused (O.Office.rows office.new) ≡ unused (O.Office.rows office.old) }
     ensures layers { O.Office.layers office.new ≡ O.Office.layers office.old }
+    ensures lent { O.Office.lent office.new ≡ O.Office.lent office.old }
 {
     let numbers = family_of(office, lease);
     yield_down(office, numbers.as_slice());

@@ -2,7 +2,8 @@ ghost use Rattle.std.specs.Prelude.{◌≡◌, true, false};
 ghost use Rattle.lending.specs.Effects.{TakesBack};
 ghost use Rattle.lending.specs.Outcome.Answer.{number};
 ghost use Rattle.lending.specs.Outcome.Call.{hand_in};
-ghost use Rattle.lending.specs.Perform.{Does};
+ghost use Rattle.lending.specs.Perform.{perform, Does};
+ghost use Rattle.lending.specs.Idle.{idle};
 ghost use Rattle.lending.specs.Promise.{LendingConserved, CallConserves};
 ghost use Rattle.office.specs.Lawful.{unused};
 
@@ -44,8 +45,10 @@ impl Slip {
     pub fn hand_in<O: Office>(mut self, office: &mut O) -> usize
         ensures does { Does O.Kind.Share.kind (O.Office.meaning office.old) (hand_in self.lease) (number result) (O.Office.meaning office.new) }
         ensures takes_back { TakesBack O.Kind.Share.kind (O.Office.meaning office.old) self.lease (O.Office.meaning office.new) }
+        ensures idle { idle (perform O.Kind.Share.kind (O.Office.meaning office.old) (hand_in self.lease)) ≡ true → office.new ≡ office.old }
         ensures unused { unused (O.Office.rows office.new) ≡ unused (O.Office.rows office.old) }
         ensures layers { O.Office.layers office.new ≡ O.Office.layers office.old }
+        ensures lent { O.Office.lent office.new ≡ O.Office.lent office.old }
         ensures conserved { CallConserves O.Kind.Share.kind (O.Office.meaning office.old) (hand_in self.lease) (number result) (O.Office.meaning office.new) }
         ensures always { LendingConserved O.Kind.Share.kind }
     {
@@ -56,11 +59,13 @@ impl Slip {
 }
 
 // Recalls a lease if it is live, and answers how many leases that closed, else 0.
-#[tactic(auto, using(crate::proofs::Closing::handed_in))]
+#[tactic(auto, using(crate::proofs::Closing::handed_in, crate::proofs::Closing::idle_hand_in))]
 fn recall_if_live<O: Office>(office: &mut O, lease: u16) -> usize
     ensures does { Does O.Kind.Share.kind (O.Office.meaning office.old) (hand_in lease) (number result) (O.Office.meaning office.new) }
+    ensures idle { idle (perform O.Kind.Share.kind (O.Office.meaning office.old) (hand_in lease)) ≡ true → office.new ≡ office.old }
     ensures unused { unused (O.Office.rows office.new) ≡ unused (O.Office.rows office.old) }
     ensures layers { O.Office.layers office.new ≡ O.Office.layers office.old }
+    ensures lent { O.Office.lent office.new ≡ O.Office.lent office.old }
 {
     recall(office, lease).unwrap_or(0)
 }

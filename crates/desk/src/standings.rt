@@ -1,6 +1,6 @@
 ghost use Rattle.std.specs.Prelude.{◌≡◌};
 ghost use Rattle.lending.specs.Above.{standing_of};
-ghost use Rattle.lending.specs.Effects.{MayWrite};
+ghost use Rattle.lending.specs.Effects.{StandingJoins, MayWrite};
 ghost use Rattle.lending.specs.Outcome.Answer.{share};
 ghost use Rattle.lending.specs.Outcome.Call.{standing};
 ghost use Rattle.lending.specs.Perform.{Does};
@@ -13,6 +13,7 @@ use shares::Share;
 // What a holder's shares of a resource join to; the empty share if there are none.
 pub fn standing<O: Office>(office: &O, resource: u16, holder: u16) -> O::Kind
     ensures does { Does O.Kind.Share.kind (O.Office.meaning office.now) (standing resource holder) (share result) (O.Office.meaning office.now) }
+    ensures joins { StandingJoins O.Kind.Share.kind (O.Office.meaning office.now) resource holder result }
     ensures conserved { CallConserves O.Kind.Share.kind (O.Office.meaning office.now) (standing resource holder) (share result) (O.Office.meaning office.now) }
     ensures always { LendingConserved O.Kind.Share.kind }
 {

@@ -18,6 +18,7 @@ pub(crate) fn yield_down<O: Office>(office: &mut O, numbers: &[u16])
     ensures leaves { (u : State O.Kind) → yields O.Kind.Share.kind (O.Office.meaning office.old) (reverse numbers.now) ≡ grants done u → (O.Office.meaning office.new).core ≡ u.core }
     ensures unused { unused (O.Office.rows office.new) ≡ unused (O.Office.rows office.old) }
     ensures layers { O.Office.layers office.new ≡ O.Office.layers office.old }
+    ensures lent { O.Office.lent office.new ≡ O.Office.lent office.old }
 {
     for number in numbers.iter().rev() {
         // it is granted, so that there is no refusal to pass on

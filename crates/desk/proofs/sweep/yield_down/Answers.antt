@@ -14,7 +14,7 @@ loop-number-init g c =
     let K = g.O.Kind.Share.kind in
     let s = g.O.Office.meaning c.args.office.now in
     let e : c.into_iter-number-iterator.result.iter.rest.now ≡ c.args.numbers.now = ap (λ i. i.iter.rest.now) c.into_iter-number-iterator.ensures.into_iter_gives ∙ ap (λ i. i.rest.now) c.rev-number-items.ensures.source ∙ c.iter.ensures.rest in
-    (λ u h. (u, ap (λ (ns : List ℕ). yields K s (reverse ns)) e ∙ h, refl), refl, refl)
+    (λ u h. (u, ap (λ (ns : List ℕ). yields K s (reverse ns)) e ∙ h, refl), refl, refl, refl)
 
 pub loop-number-preserved : goal.loop-number-preserved
 loop-number-preserved g c =
@@ -29,6 +29,7 @@ loop-number-preserved g c =
           (objecting K t.objections v.0, yields_on K n (reverse rest) s t v.0 (told c.yield_lease.result) (ap (yields K s) (sym r) ∙ v.1) c.yield_lease.ensures.does, v.2),
       c.yield_lease.ensures.unused ∙ c.loop-number.invariant.1,
       c.yield_lease.ensures.layers ∙ c.loop-number.invariant.2,
+      c.yield_lease.ensures.lent ∙ c.loop-number.invariant.3,
     )
 
 pub returns-clause-leaves : goal.returns-clause-leaves
@@ -44,3 +45,6 @@ returns-clause-unused g c = c.loop-number.invariant.1
 
 pub returns-clause-layers : goal.returns-clause-layers
 returns-clause-layers g c = c.loop-number.invariant.2
+
+pub returns-clause-lent : goal.returns-clause-lent
+returns-clause-lent g c = c.loop-number.invariant.3

@@ -12,3 +12,4 @@ invariant-loop-number g l = let K = g.O.Kind.Share.kind in
     ((u : State g.row.O-Kind.Denot) → yields K (g.O.Office.meaning l.initial.office) (reverse l.numbers) ≡ grants done u → (v : State g.row.O-Kind.Denot) × (yields K (g.O.Office.meaning l.office) (reverse l.number-iterator.iter.rest.now) ≡ grants done v) × (v.core ≡ u.core))
     × (unused (g.O.Office.rows l.office) ≡ unused (g.O.Office.rows l.initial.office))
     × (g.O.Office.layers l.office ≡ g.O.Office.layers l.initial.office)
+    × (g.O.Office.lent l.office ≡ g.O.Office.lent l.initial.office)
