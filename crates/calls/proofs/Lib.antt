@@ -1,3 +1,5 @@
 pub mod Pieces
 pub mod Words
 pub mod Making
+pub mod Playing
+pub mod Following

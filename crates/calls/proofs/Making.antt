@@ -22,13 +22,14 @@ pub few_fit : (r : Option Tallies) (t : Tallies) → MatchOption r (TooLarge t) 
 few_fit None t m few = absurd (m (omega (arith, few), omega (arith, few), omega (arith, few), omega (arith, few)))
 few_fit (Some after) t m few = ap Some m
 
-module _ {S : Type 0} (K : Kind S) where
+module _ {S : Type 0} (K : Kind S) (Of : State S → Type 0) where
   -- before the first call
-  pub none_made : LendingConserved K → (s : State S) (tallies : Tallies) → all_closed tallies ≡ 0 → Made K s [] tallies s
+  pub none_made : LendingConserved K → (s : State S) (tallies : Tallies) → all_closed tallies ≡ 0 → Made K Of s [] tallies s
   none_made always s tallies none = record {
     history = [];
     in_order = refl;
     leads = refl;
+    stood = tt;
     yields = omega arith;
     merges = omega arith;
     recalls = omega arith;
@@ -38,14 +39,15 @@ module _ {S : Type 0} (K : Kind S) where
   }
 
   -- one call more
-  pub one_more : LendingConserved K → (s t u : State S) (calls : List Call) (call : Call) (a : office.Answer S) (tallies : Tallies) → Made K s calls tallies t → Does K t (called call) a u → Made K s (calls ++ (call ∷ [])) (counted tallies (called call) a) u
-  one_more always s t u calls call a tallies made does =
+  pub one_more : LendingConserved K → (s t u : State S) (calls : List Call) (call : Call) (a : office.Answer S) (tallies : Tallies) → Made K Of s calls tallies t → Does K t (called call) a u → Of t → Made K Of s (calls ++ (call ∷ [])) (counted tallies (called call) a) u
+  one_more always s t u calls call a tallies made does here =
       let ms : List (Moment S) = record { before = t; call = called call; answer = a } ∷ made.history in
       let leads : Leads K s ms u = (made.leads, does) in
       record {
         history = ms;
         in_order = ap (λ cs. called call ∷ cs) made.in_order ∙ sym (ap reverse (map-append called calls (call ∷ [])) ∙ reverse-append (map called calls) (called call ∷ []));
         leads = leads;
+        stood = (here, made.stood);
         yields = let e = made.yields in omega arith;
         merges = let e = made.merges in omega arith;
         recalls = let e = made.recalls in omega arith;
@@ -55,7 +57,7 @@ module _ {S : Type 0} (K : Kind S) where
       }
 
   -- what some calls closed was live when they began, or was issued by them
-  pub few_closed : (s t : State S) (rows rows' : List (Lease S)) → Lawful s rows → Lawful t rows' → (calls : List Call) (tallies : Tallies) → Made K s calls tallies t → all_closed tallies ≤ most_rows + last_number
+  pub few_closed : (s t : State S) (rows rows' : List (Lease S)) → Lawful s rows → Lawful t rows' → (calls : List Call) (tallies : Tallies) → Made K Of s calls tallies t → all_closed tallies ≤ most_rows + last_number
   few_closed s t rows rows' l l' calls tallies made =
       let h = list_counts K s t made.history made.leads in
       let a = made.yields in let b = made.merges in let c = made.recalls in let d = made.lapses in

@@ -1,3 +1,5 @@
 pub mod Values
 pub mod Written
 pub mod Listed
+pub mod Played
+pub mod Quiet

@@ -2,8 +2,9 @@
 use Rattle.std.specs.Prelude.{◌≡◌, ℕ, ◌+◌, ◌<◌, ◌^◌, List, ◌++◌, map, reverse}
 use Rattle.shares.specs.Kind.{Kind}
 use Rattle.lending.specs.Office.{State, SetUp}
+use Rattle.lending.specs.Layers.{Layers}
 use Rattle.lending.specs.Outcome as office
-use Rattle.lending.specs.History.{Moment, Leads, tally, none, one_if_done, its_number, closing, yielded, merged, recalled, lapsed}
+use Rattle.lending.specs.History.{Moment, Leads, EachCameTo, tally, none, one_if_done, its_number, closing, yielded, merged, recalled, lapsed}
 use Rattle.lending.specs.Promise.{Conserved}
 use Rattle.calls.specs.declared.call.Call.{Call}
 use Rattle.calls.specs.declared.list.Tallies.{Tallies}
@@ -28,12 +29,14 @@ module _ {S : Type 0} where
         lapsed = tallies.lapsed + tally none none none its_number (closing c) a;
       }
 
-  -- The calls, made in their order, led from s to t and closed what the tallies say.
-  pub record Made (K : Kind S) (s : State S) (calls : List Call) (tallies : Tallies) (t : State S) : Type 0 where
+  -- The calls, made in their order, led from s to t and closed what the tallies say, each in a state of which Of holds.
+  pub record Made (K : Kind S) (Of : State S → Type 0) (s : State S) (calls : List Call) (tallies : Tallies) (t : State S) : Type 0 where
     -- each call with the state that it came to and its answer, the last one first
     pub history : List (Moment S)
     pub in_order : map (λ m. m.call) history ≡ reverse (map called calls)
     pub leads : Leads K s history t
+    -- no call came to a state that the office can not have
+    pub stood : EachCameTo Of history
     -- granted yields and granted merges, without the yields inside recall, day and hand-in
     pub yields : tallies.yielded ≡ yielded history
     pub merges : tallies.merged ≡ merged history
@@ -45,3 +48,7 @@ module _ {S : Type 0} where
     pub from_empty : SetUp s → Conserved K history t
     -- and of every list of calls to such an office that these calls follow.
     pub conserved : (start : State S) → SetUp start → (earlier : List (Moment S)) → Leads K start earlier s → Conserved K (history ++ earlier) t
+
+-- an office with these layers stands for the state
+abbrev pub Stands : {O S : Type 0} → (O → State S) → (O → Layers S) → Layers S → State S → Type 0
+Stands {O} means layers ls s = (o : O) × (means o ≡ s) × (layers o ≡ ls)

@@ -1,9 +1,12 @@
 // Making a list of calls, and counting what it closes.
 ghost use Rattle.std.specs.Prelude.{◌≡◌, MatchOption};
+ghost use Rattle.lending.specs.Layers.{Follow};
 ghost use Rattle.lending.specs.Promise.{LendingConserved};
 ghost use Rattle.office.specs.Lawful.{unused};
 ghost use Rattle.calls.specs.Values.{called, answered};
-ghost use Rattle.calls.specs.Listed.{Made, TooLarge, counted};
+ghost use Rattle.calls.specs.Listed.{Made, Stands, TooLarge, counted};
+ghost use Rattle.calls.specs.Played.{Played};
+ghost use Rattle.calls.specs.Quiet.{AllIdle};
 
 use crate::call::{Answer, Call};
 use crate::values::make;
@@ -53,9 +56,12 @@ impl Tallies {
 
 // Makes some calls, one after another. Answers how many leases they closed.
 pub fn make_all<O: Office>(office: &mut O, calls: &[Call]) -> Tallies
-    ensures made { Made O.Kind.Share.kind (O.Office.meaning office.old) calls.now result (O.Office.meaning office.new) }
+    ensures made { Made O.Kind.Share.kind (Stands O.Office.meaning O.Office.layers (O.Office.layers office.old)) (O.Office.meaning office.old) calls.now result (O.Office.meaning office.new) }
+    ensures played { ((o : O) → Follow (O.Office.layers o) (O.Office.meaning o)) → Played O.Kind.Share.kind (O.Office.layers office.old) (O.Office.meaning office.old) calls.now result (O.Office.meaning office.new) }
+    ensures idle { AllIdle O.Kind.Share.kind (O.Office.meaning office.old) calls.now → office.new ≡ office.old }
     ensures unused { unused (O.Office.rows office.new) ≡ unused (O.Office.rows office.old) }
     ensures layers { O.Office.layers office.new ≡ O.Office.layers office.old }
+    ensures lent { O.Office.lent office.new ≡ O.Office.lent office.old }
     ensures always { LendingConserved O.Kind.Share.kind }
 {
     make_each(office, calls)
@@ -64,9 +70,12 @@ pub fn make_all<O: Office>(office: &mut O, calls: &[Call]) -> Tallies
 // The calls made from the first on. The loop is by itself so that a wrong call of it is refused where it stands, and not in
 // the proof of the loop.
 fn make_each<O: Office>(office: &mut O, calls: &[Call]) -> Tallies
-    ensures made { Made O.Kind.Share.kind (O.Office.meaning office.old) calls.now result (O.Office.meaning office.new) }
+    ensures made { Made O.Kind.Share.kind (Stands O.Office.meaning O.Office.layers (O.Office.layers office.old)) (O.Office.meaning office.old) calls.now result (O.Office.meaning office.new) }
+    ensures played { ((o : O) → Follow (O.Office.layers o) (O.Office.meaning o)) → Played O.Kind.Share.kind (O.Office.layers office.old) (O.Office.meaning office.old) calls.now result (O.Office.meaning office.new) }
+    ensures idle { AllIdle O.Kind.Share.kind (O.Office.meaning office.old) calls.now → office.new ≡ office.old }
     ensures unused { unused (O.Office.rows office.new) ≡ unused (O.Office.rows office.old) }
     ensures layers { O.Office.layers office.new ≡ O.Office.layers office.old }
+    ensures lent { O.Office.lent office.new ≡ O.Office.lent office.old }
     ensures always { LendingConserved O.Kind.Share.kind }
 {
     lending_is_conserved::<O::Kind>();

@@ -1,5 +1,6 @@
-ghost use Rattle.std.specs.Prelude.{◌≡◌, false, is_ok};
-ghost use Rattle.lending.specs.Perform.{Does};
+ghost use Rattle.std.specs.Prelude.{◌≡◌, true, false, is_ok};
+ghost use Rattle.lending.specs.Perform.{perform, Does};
+ghost use Rattle.lending.specs.Idle.{idle};
 ghost use Rattle.lending.specs.Promise.{LendingConserved, CallConserves};
 ghost use Rattle.lending.specs.Told.{told_number};
 ghost use Rattle.office.specs.Lawful.{unused};
@@ -18,8 +19,10 @@ use shares::Share;
 pub fn make<O: Office>(office: &mut O, call: Call) -> Result<Answer<O::Kind>, Refusal>
     ensures does { Does O.Kind.Share.kind (O.Office.meaning office.old) (called call) (answered result) (O.Office.meaning office.new) }
     ensures same { is_ok result ≡ false → office.new ≡ office.old }
+    ensures idle { idle (perform O.Kind.Share.kind (O.Office.meaning office.old) (called call)) ≡ true → office.new ≡ office.old }
     ensures unused { unused (O.Office.rows office.new) ≡ unused (O.Office.rows office.old) }
     ensures layers { O.Office.layers office.new ≡ O.Office.layers office.old }
+    ensures lent { O.Office.lent office.new ≡ O.Office.lent office.old }
     ensures conserved { CallConserves O.Kind.Share.kind (O.Office.meaning office.old) (called call) (answered result) (O.Office.meaning office.new) }
     ensures always { LendingConserved O.Kind.Share.kind }
 {
@@ -28,11 +31,14 @@ pub fn make<O: Office>(office: &mut O, call: Call) -> Result<Answer<O::Kind>, Re
 }
 
 // Makes the call by the function of `desk` that has its name.
+#[tactic(auto, using(lending::proofs::Idling::idle_open, lending::proofs::Idling::idle_delegate, lending::proofs::Idling::idle_yield, lending::proofs::Idling::idle_merge, lending::proofs::Idling::idle_assign, lending::proofs::Idling::idle_day, lending::proofs::Idling::idle_recall, lending::proofs::Idling::idle_next))]
 fn ask<O: Office>(office: &mut O, call: Call) -> Result<Answer<O::Kind>, Refusal>
     ensures does { Does O.Kind.Share.kind (O.Office.meaning office.old) (called call) (answered result) (O.Office.meaning office.new) }
     ensures same { is_ok result ≡ false → office.new ≡ office.old }
+    ensures idle { idle (perform O.Kind.Share.kind (O.Office.meaning office.old) (called call)) ≡ true → office.new ≡ office.old }
     ensures unused { unused (O.Office.rows office.new) ≡ unused (O.Office.rows office.old) }
     ensures layers { O.Office.layers office.new ≡ O.Office.layers office.old }
+    ensures lent { O.Office.lent office.new ≡ O.Office.lent office.old }
 {
     match call {
         Call::Open { resource, holder } => {

@@ -1,0 +1,20 @@
+-- What a list of calls comes to at an office whose objections follow from its layers: it is worked out from the list.
+use Rattle.std.specs.Prelude.{◌≡◌, List, map, reverse}
+use Rattle.shares.specs.Kind.{Kind}
+use Rattle.lending.specs.Office.{State}
+use Rattle.lending.specs.Layers.{Layers}
+use Rattle.lending.specs.Play.{play}
+use Rattle.lending.specs.History.{yielded, merged, recalled, lapsed}
+use Rattle.calls.specs.declared.call.Call.{Call}
+use Rattle.calls.specs.declared.list.Tallies.{Tallies}
+use Rattle.calls.specs.Values.{called}
+
+module _ {S : Type 0} (K : Kind S) (layers : Layers S) (s : State S) (calls : List Call) where
+  -- The calls were made in their order, each once, to an office with these layers that stood for s: it answered what the
+  -- definitions answer, stands for the state that they lead to, and closed what those answers say.
+  pub record Played (tallies : Tallies) (t : State S) : Type 0 where
+    pub leaves : t ≡ (play K layers s (reverse (map called calls))).1
+    pub yields : tallies.yielded ≡ yielded (play K layers s (reverse (map called calls))).0
+    pub merges : tallies.merged ≡ merged (play K layers s (reverse (map called calls))).0
+    pub recalls : tallies.recalled ≡ recalled (play K layers s (reverse (map called calls))).0
+    pub lapses : tallies.lapsed ≡ lapsed (play K layers s (reverse (map called calls))).0
