@@ -7,13 +7,13 @@ ghost use Rattle.listing.specs.Printouts.{printed, left};
 
 use crate::lines::{add_leases, add_refusal, add_refusals, add_totals};
 use lending::lending_is_conserved;
-use office::Office;
+use office::Piled;
 use replay::replay;
 use shares::Printed;
 use std::alloc::{AllocError, Global};
 
 // Replays a book over an office, and adds its printout to some bytes.
-pub fn print_book<O: Office>(
+pub fn print_book<O: Piled>(
     alloc: Global,
     office: &mut O,
     book: &[u8],
@@ -26,6 +26,7 @@ where
     ensures conserved { RunConserved O.Kind.Share.kind (O.Office.layers office.old) book.now (O.Office.meaning office.old) (count_in book.now) }
     ensures unused { unused (O.Office.rows office.new) ≡ unused (O.Office.rows office.old) }
     ensures layers { O.Office.layers office.new ≡ O.Office.layers office.old }
+    ensures lent { O.Office.lent office.new ≡ O.Office.lent office.old }
     ensures always { LendingConserved O.Kind.Share.kind }
 {
     lending_is_conserved::<O::Kind>();

@@ -18,7 +18,7 @@ use kinds::{of_kind, *};
 use layer::Layer;
 use ledger::Ledger;
 use lending::{Lease, MOST_ROWS};
-use office::Office;
+use office::{Office, Piled};
 use quota::Quota;
 use shares::Printed;
 use std::alloc::{AllocError, Global};
@@ -65,7 +65,7 @@ fn print_new<S: Printed>(alloc: Global, header: Header, book: &[u8]) -> Result<V
 }
 
 // The printout over the three layers on an office.
-fn print_over<O: Office + Drop>(
+fn print_over<O: Piled + Drop>(
     alloc: Global,
     below: O,
     header: Header,

@@ -46,6 +46,7 @@ impl Reading {
         ensures same { is_ok result ≡ false → office.new ≡ office.old }
         ensures unused { unused (O.Office.rows office.new) ≡ unused (O.Office.rows office.old) }
         ensures layers { O.Office.layers office.new ≡ O.Office.layers office.old }
+        ensures lent { O.Office.lent office.new ≡ O.Office.lent office.old }
         ensures always { LendingConserved O.Kind.Share.kind }
     {
         lending_is_conserved::<O::Kind>();
@@ -89,6 +90,7 @@ fn make_event<O: Office>(office: &mut O, event: Event, tallies: Tallies) -> Resu
     ensures same { is_ok result ≡ false → office.new ≡ office.old }
     ensures unused { unused (O.Office.rows office.new) ≡ unused (O.Office.rows office.old) }
     ensures layers { O.Office.layers office.new ≡ O.Office.layers office.old }
+    ensures lent { O.Office.lent office.new ≡ O.Office.lent office.old }
 {
     let (code, operands) = event.asked()?;
     let call = call_of(code, operands);

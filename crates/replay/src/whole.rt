@@ -9,7 +9,7 @@ use crate::fault::Fault;
 use crate::session::{Finished, Reading};
 use book::Book;
 use lending::lending_is_conserved;
-use office::Office;
+use office::Piled;
 use std::alloc::{AllocError, Global};
 
 // What came of a replay: the finished session, and the faults of the refused events, in the order of the book.
@@ -21,7 +21,7 @@ pub struct Replayed {
 
 // Replays a book over an office: each of its events is stepped once, in their order, and the session is finished. Refused
 // only as opening is. The memory for the faults is taken before the first event.
-pub fn replay<O: Office>(
+pub fn replay<O: Piled>(
     alloc: Global,
     office: &mut O,
     book: &[u8],
@@ -33,6 +33,7 @@ pub fn replay<O: Office>(
     ensures no_memory { OnErr result (office.new ≡ office.old) }
     ensures unused { unused (O.Office.rows office.new) ≡ unused (O.Office.rows office.old) }
     ensures layers { O.Office.layers office.new ≡ O.Office.layers office.old }
+    ensures lent { O.Office.lent office.new ≡ O.Office.lent office.old }
     ensures always { LendingConserved O.Kind.Share.kind }
 {
     lending_is_conserved::<O::Kind>();
@@ -61,7 +62,7 @@ fn count_events(book: &[u8]) -> Result<u16, Fault>
 
 // Steps every event of a book that opens and has so many. The loop is by itself so that a wrong call of it is refused where it
 // stands, and not in the proof of the loop.
-fn read_events<O: Office>(
+fn read_events<O: Piled>(
     office: &mut O,
     book: &[u8],
     events: u16,
@@ -75,6 +76,7 @@ fn read_events<O: Office>(
     ensures done { result.done ≡ events }
     ensures unused { unused (O.Office.rows office.new) ≡ unused (O.Office.rows office.old) }
     ensures layers { O.Office.layers office.new ≡ O.Office.layers office.old }
+    ensures lent { O.Office.lent office.new ≡ O.Office.lent office.old }
 {
     let mut session = Reading::new();
     for _event in 0..events {

@@ -14,6 +14,7 @@ loop-event-init g c = record {
   room = c.requires.room;
   unused = refl;
   layers = refl;
+  lent = refl;
 }
 
 pub loop-event-preserved : goal.loop-event-preserved
@@ -26,7 +27,7 @@ loop-event-preserved g c =
       | in_default w ↦ rw w.faults-is (no_fault c.loop-event.faults.items c.step.result w.in_default.not-Err)
     ] in
     let layers = c.step.ensures.layers ∙ inv.layers in
-    let follow = subst (λ (l : Layers g.row.O-Kind.Denot). Follow l (g.O.Office.meaning c.step.new.office)) layers (g.O.Office.follow c.step.new.office) in
+    let follow = subst (λ (l : Layers g.row.O-Kind.Denot). Follow l (g.O.Office.meaning c.step.new.office)) layers (g.met.O.Piled.follow c.step.new.office) in
     let more = one_more g.O.Kind.Share.kind (g.O.Office.layers c.args.office.now) c.args.book.now (g.O.Office.meaning c.args.office.now) (g.O.Office.meaning c.loop-event.office) (g.O.Office.meaning c.step.new.office) c.args.events c.loop-event._event c.loop-event.faults.items c.match-step.faults.items c.loop-event.session c.step.new.self c.step.result c.requires.opens (let n = c.requires.counted in omega arith) inv.so_far inv.done follow c.step.ensures.steps grows in
     record {
       so_far = more.0;
@@ -41,4 +42,5 @@ loop-event-preserved g c =
       ];
       unused = c.step.ensures.unused ∙ inv.unused;
       layers = layers;
+      lent = c.step.ensures.lent ∙ inv.lent;
     }

@@ -12,4 +12,5 @@ invariant-loop-event g l = record {
   room : l.events ≤ vec_capacity l.faults;
   unused : unused (g.O.Office.rows l.office) ≡ unused (g.O.Office.rows l.fn.office);
   layers : g.O.Office.layers l.office ≡ g.O.Office.layers l.fn.office;
+  lent : g.O.Office.lent l.office ≡ g.O.Office.lent l.fn.office;
 }
