@@ -24,7 +24,7 @@ module _ {S : Type 0} where
   abbrev pub rows_in : Ledger S → List (Lease S)
   rows_in l = l.rows.now
 
-  -- the name of the borrow of its rows
+  -- which loan of rows it has: the name of the reference that was lent to it
   abbrev pub lent_to : Ledger S → ℕ
   lent_to l = l.rows.ghost_name
 

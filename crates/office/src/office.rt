@@ -12,8 +12,9 @@ use lending::{Lease, Refusal};
 use shares::Share;
 
 // An office. Each call does to what the office stands for what the definitions say (`does`); a refusal leaves the whole
-// office as it was (`same`); the rows that it never uses stay as they are (`unused`), and so does what its layers object to
-// (`layers`). These stand on each call, and in no type, since they speak of an office before and after it.
+// office as it was (`same`); the rows that it never uses stay as they are (`unused`), what its layers object to stays too
+// (`layers`), and its rows stay the very ones that were lent to it (`lent`). These stand on each call, and in no type, since they
+// speak of an office before and after it. What an office objects to may change with each granted call.
 pub trait Office {
     // The kind of share that it leases.
     type Kind: Share;
@@ -24,10 +25,11 @@ pub trait Office {
     // What the rows hold that were lent to its ledger.
     ghost rows: { Self → List (Lease Self.Kind) };
 
-    // The name of the borrow of those rows.
+    // Which loan of rows that is: each mutable reference has a name of its own, and whoever lent it knows the name.
     ghost lent: { Self → ℕ };
 
-    // What each of its layers objects to by itself, the outermost first.
+    // Some layers of it, the outermost first, by what each objects to by itself; none are as good as any. No call changes what
+    // these object to. The office may object to more, and to other things after each granted call.
     ghost layers: { Self → Layers Self.Kind };
 
     // What holds of every state of an office.
