@@ -856,8 +856,13 @@ def mode_heavy(rng):
     return book.bytes()
 
 
+def mode_too_long(rng):
+    """The longest book and a byte more: as many bytes as the programs read, of which all but the last are a book."""
+    return mode_heavy(rng) + bytes([rng.choice([0, 1, 255])])
+
+
 MODES = {"random": mode_random, "adversarial": mode_adversarial, "damaged": mode_damaged, "full": mode_full,
-         "quota": mode_quota, "chains": mode_chains, "merges": mode_merges, "heavy": mode_heavy}
+         "quota": mode_quota, "chains": mode_chains, "merges": mode_merges, "heavy": mode_heavy, "too_long": mode_too_long}
 
 
 def book_of(seed, mode):

@@ -1,5 +1,5 @@
 -- What the bytes of a book say.
-use Rattle.std.specs.Prelude.{ℕ, ◌+◌, ◌*◌, List, [], ◌∷◌, ◌++◌, length, take, drop, slice_index, Option, Some, None, Result, Ok, Err, ◌==◌, nat_lt, if◌then◌else◌}
+use Rattle.std.specs.Prelude.{◌≡◌, ℕ, ◌+◌, ◌*◌, List, [], ◌∷◌, ◌++◌, length, take, drop, slice_index, Option, Some, None, Result, Ok, Err, ◌==◌, nat_lt, if◌then◌else◌}
 use Rattle.kinds.specs.declared.kind.KindOfShare.{KindOfShare}
 use Rattle.kinds.specs.Bytes.{byte_of, kind_of_byte}
 use Rattle.book.specs.declared.header.Header.{Header}
@@ -29,6 +29,10 @@ opening b =
     if nat_lt (length b) 8 then Err 41 else
     (if nat_lt most_events (count_in b) then Err 42 else
     with_kind b (kind_of_byte (slice_index b 2)))
+
+-- opening the first bytes of an input, so many at most, says what opening all of them says
+pub record Enough (n : ℕ) : Type 0 where
+  pub same : (b : List ℕ) → opening (take n b) ≡ opening b
 
 -- an answer of the code, with the number of a refusal
 abbrev pub opened : Result Book BookReason → Result Header ℕ

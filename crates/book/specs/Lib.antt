@@ -1,6 +1,7 @@
 pub mod Limits
 pub mod Told
 pub mod Bytes
+pub mod Places
 pub mod Codes
 pub mod Events
 pub mod Books

@@ -3,7 +3,7 @@ ghost use Rattle.book.specs.Limits.{most_events};
 
 use crate::event::Event;
 use crate::header::Header;
-use crate::limits::{EVENT, MOST_EVENTS, RECORD};
+use crate::limits::{EVENT, HEADER, MOST_EVENTS, RECORD};
 use crate::reason::BookReason;
 use kinds::KindOfShare;
 
@@ -21,13 +21,17 @@ pub struct Book<'a> {
 }
 
 impl<'a> Book<'a> {
-    ghost use Rattle.std.specs.Prelude.{IfOk};
+    ghost use Rattle.std.specs.Prelude.{◌+◌, IfOk, IfSome};
     ghost use Rattle.book.specs.Books.{opening, opened, bytes_of, event_in, event_of};
+    ghost use Rattle.book.specs.Places.{further};
 
-    // Opens a book, or refuses its bytes by the first rule that they break. A book that opens is all of its bytes.
+    // Opens a book, or refuses its bytes by the first rule that they break. A book that opens is all of its bytes, and its two
+    // arrays are those very parts of them.
     pub fn open(bytes: &'a [u8]) -> Result<Book<'a>, BookReason>
         ensures is { opened result ≡ opening bytes.now }
         ensures whole { IfOk result (λ book. bytes_of book ≡ bytes.now) }
+        ensures codes { IfOk result (λ book. book.codes.ref_ptr ≡ further bytes.entry.ref_ptr HEADER) }
+        ensures records { IfOk result (λ book. book.records.ref_ptr ≡ further bytes.entry.ref_ptr (HEADER + book.header.events)) }
     {
         let [n0, n1, kind, chain, t0, t1, z0, z1, rest @ ..] = bytes else {
             return Err(BookReason::TooShort);
@@ -40,10 +44,12 @@ impl<'a> Book<'a> {
         if *z0 != 0 || *z1 != 0 {
             return Err(BookReason::NotZero);
         }
-        if rest.len() != EVENT * usize::from(events) {
+        let count = usize::from(events);
+        if rest.len() != EVENT * count {
             return Err(BookReason::WrongLength);
         }
-        let (codes, records) = rest.split_at(usize::from(events));
+        let codes = &rest[..count];
+        let records = &rest[count..];
         let header = Header {
             events,
             kind,
@@ -60,10 +66,12 @@ impl<'a> Book<'a> {
     // Event i of the book, from 0, if there are so many: its record is that very part of the book.
     #[tactic(auto, using(crate::proofs::Parts::event_at))]
     pub fn event(&self, i: usize) -> Option<Event<'a>>
-        ensures { event_of result ≡ event_in (bytes_of self.now) i }
+        ensures is { event_of result ≡ event_in (bytes_of self.now) i }
+        ensures place { IfSome result (λ event. event.bytes.ref_ptr ≡ further self.now.records.ref_ptr (RECORD * i)) }
     {
         let code = *self.codes.get(i)?;
-        let bytes = self.records[RECORD * i..].first_chunk()?;
+        let first = RECORD * i;
+        let bytes = &self.records[first..first + RECORD];
         Some(Event { code, bytes })
     }
 }

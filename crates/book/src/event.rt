@@ -1,28 +1,32 @@
-ghost use Rattle.std.specs.Prelude.{◌≡◌, ◌==◌};
+ghost use Rattle.std.specs.Prelude.{◌≡◌, ◌==◌, length};
 ghost use Rattle.std.specs.List.{list_all};
-ghost use Rattle.book.specs.Events.{operands_of, asked, asked_of};
 
 use crate::code::Code;
-use crate::limits::RECORD;
 use crate::reason::BookReason;
 
 // An event of a book: the byte of its code, and its record, which is that very part of the book.
 #[derive(Clone, Copy, Debug, Drop)]
 pub struct Event<'a> {
     pub code: u8,
-    pub bytes: &'a [u8; RECORD],
+    // a slice and no array, since the library doesn't say of an array that it makes of a slice where the array stands
+    pub bytes: &'a [u8],
+    ghost six: { length bytes.now ≡ 6 },
 }
 
 impl Event<'_> {
+    ghost use Rattle.book.specs.Events.{operands_of, asked, asked_of};
+
     // The three operands of its record.
     pub fn operands(&self) -> [u16; 3]
         ensures { result ≡ operands_of self.now.bytes.now }
     {
-        let [a0, a1, b0, b1, c0, c1] = *self.bytes;
+        let [a0, a1, b0, b1, c0, c1] = self.bytes else {
+            unreachable!();
+        };
         [
-            u16::from_le_bytes([a0, a1]),
-            u16::from_le_bytes([b0, b1]),
-            u16::from_le_bytes([c0, c1]),
+            u16::from_le_bytes([*a0, *a1]),
+            u16::from_le_bytes([*b0, *b1]),
+            u16::from_le_bytes([*c0, *c1]),
         ]
     }
 

@@ -13,5 +13,5 @@ pub use book::Book;
 pub use code::Code;
 pub use event::Event;
 pub use header::Header;
-pub use limits::{EVENT, HEADER, MOST_BYTES, MOST_EVENTS, RECORD};
+pub use limits::{EVENT, HEADER, MOST_BYTES, MOST_EVENTS, RECORD, bytes_to_read};
 pub use reason::BookReason;

@@ -1,21 +1,24 @@
 // The next event of a book, and the call that it asks for.
-ghost use Rattle.std.specs.Prelude.{◌≡◌, ◌<◌, OnOk};
-ghost use Rattle.book.specs.Books.{opening};
+ghost use Rattle.std.specs.Prelude.{◌≡◌, ◌<◌, ◌+◌, ◌*◌, IfOk, OnOk};
+ghost use Rattle.book.specs.Books.{count_in, opening};
 ghost use Rattle.book.specs.Limits.{most_events};
+ghost use Rattle.book.specs.Places.{further};
 ghost use Rattle.calls.specs.Values.{called};
 ghost use Rattle.replay.specs.Events.{call_of, event_at, finishing};
 ghost use Rattle.replay.specs.Told.{told_of};
 ghost use Rattle.replay.specs.Turns.{told_event, unmoved};
 
 use crate::fault::Fault;
-use book::{Book, BookReason, Code, Event};
+use book::{Book, BookReason, Code, Event, HEADER, RECORD};
 use calls::Call;
 
-// The event of a book with so many before it. Refused as opening, or because no event is left.
+// The event of a book with so many before it; its record is that very part of the book. Refused as opening, or because no event
+// is left.
 #[tactic(auto, unfolding(crate::specs::Events::event_at))]
 pub(crate) fn next_event(book: &[u8], done: u16) -> Result<Event<'_>, Fault>
     ensures is { told_event result ≡ unmoved (event_at book.now done) }
     ensures few { OnOk result (done < most_events) }
+    ensures place { IfOk result (λ event. event.bytes.ref_ptr ≡ further book.entry.ref_ptr (HEADER + count_in book.now + RECORD * done)) }
 {
     let book = Book::open(book)?;
     let event = book
