@@ -1,9 +1,9 @@
 ghost use Rattle.std.specs.Prelude.{◌≡◌, ◌+◌, ◌≤◌, ◌++◌, length, Some};
-ghost use Rattle.arrayvec.specs.ArrayString.{array_string_len};
-ghost use Rattle.printout.specs.Answers.{answer_of, space_after};
+ghost use Rattle.arrayvec.specs.ArrayVec.{array_vec_len};
+ghost use Rattle.printout.specs.Answers.{told_line, answer_of, space_after};
 ghost use Rattle.printout.specs.Lines.{refusal_line, level_text};
 
-use super::{Line, put, write_field, write_number};
+use super::{Line, put, write_bytes, write_field, write_number};
 use crate::reason::LineReason;
 
 // Writes the line of a refused event, by its place in the book, the number of the refusal, and its level if it has one.
@@ -13,7 +13,7 @@ pub fn refusal_line(
     level: Option<u8>,
     space: &mut [u8],
 ) -> Result<usize, LineReason>
-    ensures answers { result ≡ answer_of (Some (refusal_line event number level)) space.old }
+    ensures answers { told_line result ≡ answer_of (Some (refusal_line event number level)) space.old }
     ensures leaves { space.new ≡ space_after (Some (refusal_line event number level)) space.old }
     ensures short { length (refusal_line event number level) ≤ 219 }
 {
@@ -22,26 +22,26 @@ pub fn refusal_line(
 
 // The line of a refused event.
 fn refusal(event: usize, number: u8, level: Option<u8>) -> Line
-    ensures text { result.bytes ≡ refusal_line event number level }
-    ensures short { array_string_len result ≤ 219 }
+    ensures text { result.items ≡ refusal_line event number level }
+    ensures short { array_vec_len result ≤ 219 }
 {
     let mut line = Line::new();
-    line.push_str("! ");
+    write_bytes(&mut line, b"! ");
     write_field(&mut line, event);
     write_field(&mut line, number);
     write_level(&mut line, level);
-    line.push_str("\n");
+    line.push(b'\n');
     line
 }
 
 // Writes the level of a refusal, or `-` if it has none.
 fn write_level(line: &mut Line, level: Option<u8>)
-    requires { array_string_len line.old + 3 ≤ 256 }
-    ensures text { line.new.bytes ≡ line.old.bytes ++ level_text level }
-    ensures short { array_string_len line.new ≤ array_string_len line.old + 3 }
+    requires { array_vec_len line.old + 3 ≤ 256 }
+    ensures text { line.new.items ≡ line.old.items ++ level_text level }
+    ensures short { array_vec_len line.new ≤ array_vec_len line.old + 3 }
 {
     match level {
         Some(level) => write_number(line, level),
-        None => line.push_str("-"),
+        None => line.push(b'-'),
     }
 }

@@ -1,9 +1,9 @@
 ghost use Rattle.std.specs.Prelude.{◌≡◌, ◌≤◌, length, Some};
-ghost use Rattle.arrayvec.specs.ArrayString.{array_string_len};
-ghost use Rattle.printout.specs.Answers.{answer_of, space_after};
+ghost use Rattle.arrayvec.specs.ArrayVec.{array_vec_len};
+ghost use Rattle.printout.specs.Answers.{told_line, answer_of, space_after};
 ghost use Rattle.printout.specs.Lines.{total_line};
 
-use super::{Line, put, write_field, write_number};
+use super::{Line, put, write_bytes, write_field, write_number};
 use crate::reason::LineReason;
 
 // The totals of a printout.
@@ -25,7 +25,7 @@ pub struct Totals {
 
 // Writes the line of the totals.
 pub fn total_line(totals: Totals, space: &mut [u8]) -> Result<usize, LineReason>
-    ensures answers { result ≡ answer_of (Some (total_line totals)) space.old }
+    ensures answers { told_line result ≡ answer_of (Some (total_line totals)) space.old }
     ensures leaves { space.new ≡ space_after (Some (total_line totals)) space.old }
     ensures short { length (total_line totals) ≤ 219 }
 {
@@ -34,17 +34,17 @@ pub fn total_line(totals: Totals, space: &mut [u8]) -> Result<usize, LineReason>
 
 // The line of the totals.
 fn total(totals: Totals) -> Line
-    ensures text { result.bytes ≡ total_line totals }
-    ensures short { array_string_len result ≤ 219 }
+    ensures text { result.items ≡ total_line totals }
+    ensures short { array_vec_len result ≤ 219 }
 {
     let mut line = Line::new();
-    line.push_str("= ");
+    write_bytes(&mut line, b"= ");
     write_field(&mut line, totals.issued);
     write_field(&mut line, totals.live);
     write_field(&mut line, totals.yielded);
     write_field(&mut line, totals.merged);
     write_field(&mut line, totals.recalled);
     write_number(&mut line, totals.lapsed);
-    line.push_str("\n");
+    line.push(b'\n');
     line
 }
