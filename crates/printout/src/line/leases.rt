@@ -30,7 +30,9 @@ where
     lending_is_conserved::<O::Kind>();
     let lease = live_lease(office, position)?;
     let may_write = holder_may_write(office, lease);
-    put(&lettered(lease, may_write), space)
+    let mut line = Line::new();
+    write_lease(&mut line, lease, may_write);
+    put(&line, space)
 }
 
 // The live lease at a position, and what holds of the lines of all live leases.
@@ -54,21 +56,20 @@ fn holder_may_write<O: Office>(office: &O, lease: Lease<O::Kind>) -> bool
     may_write(office, lease.resource, lease.holder)
 }
 
-// The line of a lease, by whether its holder may write.
-fn lettered<S: Printed>(lease: Lease<S>, may_write: bool) -> Line
-    ensures { result.items ≡ lease_text S.text lease may_write }
+// Writes the line of a lease, by whether its holder may write.
+fn write_lease<S: Printed>(line: &mut Line, lease: Lease<S>, may_write: bool)
+    requires { line.old.items ≡ [] }
+    ensures { line.new.items ≡ lease_text S.text lease may_write }
 {
-    let mut line = Line::new();
-    write_field(&mut line, lease.number);
-    write_field(&mut line, lease.resource);
-    write_field(&mut line, lease.holder);
-    write_field(&mut line, lease.lender);
-    write_field(&mut line, lease.due);
+    write_field(line, lease.number);
+    write_field(line, lease.resource);
+    write_field(line, lease.holder);
+    write_field(line, lease.lender);
+    write_field(line, lease.due);
     line.push(letter(may_write));
     line.push(b' ');
-    write_share(&mut line, lease.share);
+    write_share(line, lease.share);
     line.push(b'\n');
-    line
 }
 
 // `w` for a holder that may write, else `r`.

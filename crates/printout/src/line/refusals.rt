@@ -1,9 +1,9 @@
-ghost use Rattle.std.specs.Prelude.{◌≡◌, ◌+◌, ◌≤◌, ◌++◌, length, Some};
+ghost use Rattle.std.specs.Prelude.{◌≡◌, ◌+◌, ◌≤◌, [], ◌++◌, length, Some};
 ghost use Rattle.arrayvec.specs.ArrayVec.{array_vec_len};
 ghost use Rattle.printout.specs.Answers.{told_line, answer_of, space_after};
 ghost use Rattle.printout.specs.Lines.{refusal_line, level_text};
 
-use super::{Line, put, write_bytes, write_field, write_number};
+use super::{Line, put, write_field, write_number};
 use crate::reason::LineReason;
 
 // Writes the line of a refused event, by its place in the book, the number of the refusal, and its level if it has one.
@@ -17,21 +17,23 @@ pub fn refusal_line(
     ensures leaves { space.new ≡ space_after (Some (refusal_line event number level)) space.old }
     ensures short { length (refusal_line event number level) ≤ 219 }
 {
-    put(&refusal(event, number, level), space)
+    let mut line = Line::new();
+    write_refusal(&mut line, event, number, level);
+    put(&line, space)
 }
 
-// The line of a refused event.
-fn refusal(event: usize, number: u8, level: Option<u8>) -> Line
-    ensures text { result.items ≡ refusal_line event number level }
-    ensures short { array_vec_len result ≤ 219 }
+// Writes the line of a refused event.
+fn write_refusal(line: &mut Line, event: usize, number: u8, level: Option<u8>)
+    requires { line.old.items ≡ [] }
+    ensures text { line.new.items ≡ refusal_line event number level }
+    ensures short { array_vec_len line.new ≤ 219 }
 {
-    let mut line = Line::new();
-    write_bytes(&mut line, b"! ");
-    write_field(&mut line, event);
-    write_field(&mut line, number);
-    write_level(&mut line, level);
+    line.push(b'!');
+    line.push(b' ');
+    write_field(line, event);
+    write_field(line, number);
+    write_level(line, level);
     line.push(b'\n');
-    line
 }
 
 // Writes the level of a refusal, or `-` if it has none.
