@@ -7,11 +7,11 @@ use ledger::Ledger;
 use lending::Lease;
 use office::Office;
 use quota::Quota;
-use shares::Printed;
+use shares::Shown;
 use term::Term;
 
 // Sets up an office, and makes the calls to it.
-pub(crate) fn serve<S: Printed>(
+pub(crate) fn serve<S: Shown>(
     rt: &HostRuntime,
     office: SetUp,
     lines: &[Line],
@@ -30,7 +30,7 @@ pub(crate) fn serve<S: Printed>(
 }
 
 // Piles the three layers on an office, and makes the calls.
-fn serve_over<S: Printed, O: Office<Kind = S> + Drop>(
+fn serve_over<S: Shown, O: Office<Kind = S> + Drop>(
     rt: &HostRuntime,
     below: O,
     office: SetUp,
@@ -51,7 +51,7 @@ fn serve_over<S: Printed, O: Office<Kind = S> + Drop>(
 }
 
 // Makes a call, and prints it, its answer, and the roll after a call that may change it.
-fn answer<S: Printed, O: Office<Kind = S>>(
+fn answer<S: Shown, O: Office<Kind = S>>(
     rt: &HostRuntime,
     office: &mut O,
     call: Call,
@@ -70,7 +70,7 @@ fn answer<S: Printed, O: Office<Kind = S>>(
 }
 
 // Makes a list of calls, and prints them, what they closed, and the roll after them.
-fn answer_list<S: Printed, O: Office<Kind = S>>(
+fn answer_list<S: Shown, O: Office<Kind = S>>(
     rt: &HostRuntime,
     office: &mut O,
     calls: &[Call],

@@ -3,7 +3,7 @@ use calls::{Answer, Call};
 use desk::{count, issued, leases, today};
 use lending::{Lease, Refusal};
 use office::Office;
-use shares::{Printed, Text};
+use shares::{Shown, Text};
 use std::fmt;
 
 // Some calls, on one line.
@@ -17,7 +17,7 @@ pub(crate) fn print_calls(rt: &HostRuntime, calls: &[Call]) -> anyhow::Result<()
 }
 
 // The answer to a call.
-pub(crate) fn print_answer<S: Printed>(
+pub(crate) fn print_answer<S: Shown>(
     rt: &HostRuntime,
     call: Call,
     answer: Result<Answer<S>, Refusal>,
@@ -48,7 +48,7 @@ pub(crate) fn print_answer<S: Printed>(
 }
 
 // The roll of an office.
-pub(crate) fn print_roll<S: Printed, O: Office<Kind = S>>(
+pub(crate) fn print_roll<S: Shown, O: Office<Kind = S>>(
     rt: &HostRuntime,
     office: &O,
 ) -> anyhow::Result<()> {
@@ -67,7 +67,7 @@ pub(crate) fn print_roll<S: Printed, O: Office<Kind = S>>(
 #[derive(Drop)]
 struct Entry<S>(Lease<S>);
 
-impl<S: Printed> fmt::Display for Entry<S> {
+impl<S: Shown> fmt::Display for Entry<S> {
     fn fmt<W: fmt::Write>(&self, f: &mut fmt::Formatter<W>) -> fmt::Result {
         let Lease {
             number,

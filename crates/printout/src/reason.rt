@@ -1,5 +1,5 @@
 ghost use Rattle.std.specs.Prelude.{◌≡◌};
-ghost use Rattle.printout.specs.Answers.{number_of, level_of};
+ghost use Rattle.printout.specs.Answers.{meant};
 
 use thiserror::Error;
 
@@ -18,14 +18,14 @@ pub enum LineReason {
 impl LineReason {
     // Its number.
     pub fn number(self) -> u8
-        ensures { result ≡ number_of self }
+        ensures { result ≡ (meant self).number }
     {
         self as u8
     }
 
     // Its level.
     pub fn level(self) -> u8
-        ensures { result ≡ level_of self }
+        ensures { result ≡ (meant self).level }
     {
         LEVEL
     }

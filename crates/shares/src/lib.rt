@@ -5,10 +5,12 @@ mod count;
 mod joins;
 mod printed;
 mod share;
+mod shown;
 mod text;
 
 pub use count::write_count;
 pub use joins::join_all;
 pub use printed::Printed;
 pub use share::Share;
+pub use shown::Shown;
 pub use text::Text;

@@ -1,4 +1,4 @@
-ghost use Rattle.std.specs.Prelude.{◌≡◌, ℕ, ◌≤◌, ◌↔◌, List, length, IsAscii};
+ghost use Rattle.std.specs.Prelude.{◌≡◌, ℕ, ◌≤◌, ◌↔◌, List, length};
 ghost use Rattle.shares.specs.Text.{in_front};
 
 use crate::share::Share;
@@ -15,8 +15,6 @@ pub trait Printed: Share {
         ensures bytes { space.new ≡ in_front (text self) space.old };
 
     ghost short: { (a : Self) → length (text a) ≤ 190 };
-
-    ghost ascii: { (a : Self) → IsAscii (text a) };
 
     // Two shares are equal exactly when their texts are.
     ghost exact: { (a b : Self) → (text a ≡ text b) ↔ (a ≡ b) };

@@ -6,14 +6,12 @@ ghost use Rattle.counting.specs.Texts.{tells};
 
 use crate::counting::Counting;
 use crate::permission::Permission;
-use shares::{Printed, write_count};
+use shares::{Printed, Shown, write_count};
 
 impl Printed for Counting {
     ghost text = { λ s. permission_text s.held };
 
     ghost short = { λ a. Texts.short a.held a.limited };
-
-    ghost ascii = { λ a. Texts.ascii a.held a.limited };
 
     ghost exact = { tells };
 
@@ -24,6 +22,10 @@ impl Printed for Counting {
             Permission::Readers(k) => write_count(b'r', k, space),
         }
     }
+}
+
+impl Shown for Counting {
+    ghost ascii = { λ a. Texts.ascii a.held a.limited };
 }
 
 // Writes a letter at the front of a space, and answers how many bytes that are. (A space and a length, since an office has

@@ -1,6 +1,6 @@
-ghost use Rattle.std.specs.Prelude.{◌≡◌, ◌+◌, ◌≤◌, ◌++◌, length, Some};
-ghost use Rattle.arrayvec.specs.ArrayString.{array_string_len};
-ghost use Rattle.printout.specs.Answers.{answer_of, space_after};
+ghost use Rattle.std.specs.Prelude.{◌≡◌, ◌+◌, ◌≤◌, [], ◌++◌, length, Some};
+ghost use Rattle.arrayvec.specs.ArrayVec.{array_vec_len};
+ghost use Rattle.printout.specs.Answers.{told_line, answer_of, space_after};
 ghost use Rattle.printout.specs.Lines.{refusal_line, level_text};
 
 use super::{Line, put, write_field, write_number};
@@ -13,35 +13,37 @@ pub fn refusal_line(
     level: Option<u8>,
     space: &mut [u8],
 ) -> Result<usize, LineReason>
-    ensures answers { result ≡ answer_of (Some (refusal_line event number level)) space.old }
+    ensures answers { told_line result ≡ answer_of (Some (refusal_line event number level)) space.old }
     ensures leaves { space.new ≡ space_after (Some (refusal_line event number level)) space.old }
     ensures short { length (refusal_line event number level) ≤ 219 }
 {
-    put(&refusal(event, number, level), space)
+    let mut line = Line::new();
+    write_refusal(&mut line, event, number, level);
+    put(&line, space)
 }
 
-// The line of a refused event.
-fn refusal(event: usize, number: u8, level: Option<u8>) -> Line
-    ensures text { result.bytes ≡ refusal_line event number level }
-    ensures short { array_string_len result ≤ 219 }
+// Writes the line of a refused event.
+fn write_refusal(line: &mut Line, event: usize, number: u8, level: Option<u8>)
+    requires { line.old.items ≡ [] }
+    ensures text { line.new.items ≡ refusal_line event number level }
+    ensures short { array_vec_len line.new ≤ 219 }
 {
-    let mut line = Line::new();
-    line.push_str("! ");
-    write_field(&mut line, event);
-    write_field(&mut line, number);
-    write_level(&mut line, level);
-    line.push_str("\n");
-    line
+    line.push(b'!');
+    line.push(b' ');
+    write_field(line, event);
+    write_field(line, number);
+    write_level(line, level);
+    line.push(b'\n');
 }
 
 // Writes the level of a refusal, or `-` if it has none.
 fn write_level(line: &mut Line, level: Option<u8>)
-    requires { array_string_len line.old + 3 ≤ 256 }
-    ensures text { line.new.bytes ≡ line.old.bytes ++ level_text level }
-    ensures short { array_string_len line.new ≤ array_string_len line.old + 3 }
+    requires { array_vec_len line.old + 3 ≤ 256 }
+    ensures text { line.new.items ≡ line.old.items ++ level_text level }
+    ensures short { array_vec_len line.new ≤ array_vec_len line.old + 3 }
 {
     match level {
         Some(level) => write_number(line, level),
-        None => line.push_str("-"),
+        None => line.push(b'-'),
     }
 }

@@ -1,6 +1,6 @@
-ghost use Rattle.std.specs.Prelude.{◌≡◌, ◌≤◌, length, Some};
-ghost use Rattle.arrayvec.specs.ArrayString.{array_string_len};
-ghost use Rattle.printout.specs.Answers.{answer_of, space_after};
+ghost use Rattle.std.specs.Prelude.{◌≡◌, ◌≤◌, [], length, Some};
+ghost use Rattle.arrayvec.specs.ArrayVec.{array_vec_len};
+ghost use Rattle.printout.specs.Answers.{told_line, answer_of, space_after};
 ghost use Rattle.printout.specs.Lines.{total_line};
 
 use super::{Line, put, write_field, write_number};
@@ -25,26 +25,28 @@ pub struct Totals {
 
 // Writes the line of the totals.
 pub fn total_line(totals: Totals, space: &mut [u8]) -> Result<usize, LineReason>
-    ensures answers { result ≡ answer_of (Some (total_line totals)) space.old }
+    ensures answers { told_line result ≡ answer_of (Some (total_line totals)) space.old }
     ensures leaves { space.new ≡ space_after (Some (total_line totals)) space.old }
     ensures short { length (total_line totals) ≤ 219 }
 {
-    put(&total(totals), space)
+    let mut line = Line::new();
+    write_totals(&mut line, totals);
+    put(&line, space)
 }
 
-// The line of the totals.
-fn total(totals: Totals) -> Line
-    ensures text { result.bytes ≡ total_line totals }
-    ensures short { array_string_len result ≤ 219 }
+// Writes the line of the totals.
+fn write_totals(line: &mut Line, totals: Totals)
+    requires { line.old.items ≡ [] }
+    ensures text { line.new.items ≡ total_line totals }
+    ensures short { array_vec_len line.new ≤ 219 }
 {
-    let mut line = Line::new();
-    line.push_str("= ");
-    write_field(&mut line, totals.issued);
-    write_field(&mut line, totals.live);
-    write_field(&mut line, totals.yielded);
-    write_field(&mut line, totals.merged);
-    write_field(&mut line, totals.recalled);
-    write_number(&mut line, totals.lapsed);
-    line.push_str("\n");
-    line
+    line.push(b'=');
+    line.push(b' ');
+    write_field(line, totals.issued);
+    write_field(line, totals.live);
+    write_field(line, totals.yielded);
+    write_field(line, totals.merged);
+    write_field(line, totals.recalled);
+    write_number(line, totals.lapsed);
+    line.push(b'\n');
 }

@@ -5,18 +5,20 @@ ghost use Rattle.trees.specs.Faithful.{tells};
 
 use crate::block::write_cells;
 use crate::trees::Trees;
-use shares::Printed;
+use shares::{Printed, Shown};
 
 impl Printed for Trees {
     ghost text = { text_of_share };
 
     ghost short = { Faithful.short };
 
-    ghost ascii = { λ a. text_ascii (tree a) };
-
     ghost exact = { tells };
 
     fn write(self, space: &mut [u8; 190]) -> usize {
         write_cells(self.cells, space)
     }
+}
+
+impl Shown for Trees {
+    ghost ascii = { λ a. text_ascii (tree a) };
 }
