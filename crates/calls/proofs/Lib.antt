@@ -1,3 +1,5 @@
-pub mod Pieces
 pub mod Words
+pub mod Numbers
+pub mod Said
+pub mod Written
 pub mod Making

@@ -1,3 +1,4 @@
 pub mod Values
 pub mod Written
+pub mod Reading
 pub mod Listed
