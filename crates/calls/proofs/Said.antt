@@ -59,8 +59,12 @@ module _ {F : Type 0} (text word : List ℕ) (one two three four : List (List �
         λ h. n.1 (h.0, (a numbers).1 (h.1, (b (drop 1 numbers)).1 (h.2, (c (drop 1 (drop 1 numbers))).1 (h.3, subst (SayNumbers four) (sym (no_fourth call)) h.4)))))
 
   -- a word too many
-  pub too_many : {E : Type 0} (more : List ℕ) (others : List (List ℕ)) (answer : Result Call E) → IsErr answer → four ≡ more ∷ others → Reads text answer
-  too_many more others answer failed e = refused text answer failed (λ call h. subst (λ l. SayNumbers l []) e ((said call).0 h).4)
+  pub too_many : {E : Type 0} (answer : Result Call E) → IsErr answer → (four ≡ [] → ⊥) → Reads text answer
+  too_many answer failed more = refused text answer failed (λ call h. more (none_said four ((said call).0 h).4))
+    where
+      none_said : (words : List (List ℕ)) → SayNumbers words [] → words ≡ []
+      none_said [] h = refl
+      none_said (word ∷ words) h = absurd h
 
   -- no word too many
   pub just : {E : Type 0} (x y z : Option ℕ) (answer : Result Call E) → r ≡ Ok x → s ≡ Ok y → t ≡ Ok z → four ≡ [] → ((call : Call) → word ≡ name_of call → x ∷ y ∷ z ∷ [] ≡ first_three (numbers_of call) → answer ≡ Ok call) → IfOk answer (λ call. (word ≡ name_of call) × (x ∷ y ∷ z ∷ [] ≡ first_three (numbers_of call))) → Reads text answer

@@ -1,5 +1,5 @@
 -- The words of a text, as `split_whitespace` takes them off.
-use Rattle.std.proofs.Common.{arith, ◌≡◌, ℕ, ◌<◌, true, false, not, ◌&&◌, cond, List, [], ◌∷◌, ◌++◌, length, refl, sym, ap, ◌∙◌, subst, Some, None, Bor, IsUtf8}
+use Rattle.std.proofs.Common.{arith, ◌≡◌, ℕ, ◌<◌, true, false, not, ◌&&◌, cond, List, [], ◌∷◌, ◌++◌, length, refl, sym, ap, ◌∙◌, subst, Some, None, Option, Bor, IsUtf8}
 use Rattle.std.proofs.lemmas.List.{length-append, append-nil, append_assoc}
 use Rattle.std.proofs.lemmas.Bool.{false≢true}
 use Rattle.std.proofs.lemmas.Str.{chars_from_encodes, cons_from_encodes, encode_same, encodes_same, encodes-append, length-encode, len_utf8_bounds}
@@ -77,3 +77,7 @@ word_off s t x u h =
 pub none_off : (s t : SplitWhitespace) → IsUtf8 (split_whitespace_rest s) → split_whitespace_steps s None t → (t ≡ s) × (words_of (split_whitespace_rest s) ≡ [])
 none_off s t u h =
     (h.0, ap (words_from []) (sym (chars_from_encodes h.1.0 (split_whitespace_rest s) u h.1.1) ∙ sym (append-nil h.1.0)) ∙ white_off h.1.0 [] h.1.2)
+
+-- where a word comes off there are words
+pub some_left : (s t : SplitWhitespace) (r : Option (Bor (List ℕ))) (x : Bor (List ℕ)) → r ≡ Some x → split_whitespace_steps s r t → IsUtf8 (split_whitespace_rest s) → words_of (split_whitespace_rest s) ≡ [] → ⊥
+some_left s t r x is h u e = omega (arith, ap length (sym e ∙ (word_off s t x u (subst (λ o. split_whitespace_steps s o t) is h)).1))

@@ -1,5 +1,5 @@
 // Reading calls as they are written.
-ghost use Rattle.std.specs.Prelude.{◌≡◌, ℕ, ◌↔◌, List, [], ◌∷◌, drop, Ok, IfOk, IsUtf8};
+ghost use Rattle.std.specs.Prelude.{◌≡◌, ℕ, ◌↔◌, List, [], ◌∷◌, drop, Ok, IsOk, IfOk, IsUtf8};
 ghost use Rattle.std.specs.Str.Iter.{split_whitespace_rest};
 ghost use Rattle.calls.specs.declared.call.Call.{Call};
 ghost use Rattle.calls.specs.Written.{name_of, numbers_of};
@@ -35,10 +35,8 @@ impl FromStr for Call {
         let first = next_number(&mut words)?;
         let second = next_number(&mut words)?;
         let third = next_number(&mut words)?;
-        match words.next() {
-            None => call_of(name, [first, second, third]),
-            Some(_) => Err(NotACall),
-        }
+        no_word_left(&mut words)?;
+        call_of(name, [first, second, third])
     }
 }
 
@@ -52,6 +50,18 @@ fn next_number(words: &mut SplitWhitespace) -> Result<Option<u16>, NotACall>
     match words.next() {
         None => Ok(None),
         Some(word) => Ok(Some(word.parse()?)),
+    }
+}
+
+// Refuses a word too many.
+#[tactic(auto, using(crate::proofs::Words::some_left, crate::proofs::Words::none_off))]
+fn no_word_left(words: &mut SplitWhitespace) -> Result<(), NotACall>
+    requires { IsUtf8 (split_whitespace_rest words.old) }
+    ensures { IsOk result ↔ (words_of (split_whitespace_rest words.old) ≡ []) }
+{
+    match words.next() {
+        None => Ok(()),
+        Some(_) => Err(NotACall),
     }
 }
 

@@ -1,4 +1,5 @@
-use Rattle.std.proofs.Common.{◌≡◌, refl, sym, ap, ◌∙◌, subst, [], ◌∷◌, IsUtf8, IsErr, is_err}
+use Rattle.std.proofs.Common.{◌≡◌, refl, sym, ap, ◌∙◌, subst, [], ◌∷◌, IsUtf8, IsErr, is_err, is_ok}
+use Rattle.std.proofs.lemmas.Bool.{false≢true}
 use Rattle.std.specs.Str.Iter.{split_whitespace_rest}
 use Rattle.calls.specs.Reading.{words_of}
 use Rattle.calls.proofs.Words.{word_off, none_off}
@@ -38,18 +39,20 @@ returns-in_err-third c =
     let w = (word_off c.split_whitespace-words.result c.next.new.self c.in-Some.name u c.in-Some.ensures.steps).1 in
     reads_back c.args.text.now _ c.utf8.text (no_numbers c.args.text.now c.in-Some.name.now _ _ c.from_residual-in_err-third.ensures.0 (ap words_of (sym rest) ∙ w) (passed c.next_number.result _ _ c.next_number.ensures.number (passed c.next_number-2.result _ _ c.next_number-2.ensures.number (stuck c.next_number-3.result _ _ c.next_number-3.ensures.number (ap is_err c.in_err-third.was)))))
 
-pub returns-in-Some-next : goal.returns-in-Some-next
-returns-in-Some-next c =
-    let rest = c.split_whitespace-words.ensures.rest in
-    let u = subst IsUtf8 (sym rest) c.utf8.text in
-    let w = (word_off c.split_whitespace-words.result c.next.new.self c.in-Some.name u c.in-Some.ensures.steps).1 in
-    let more = (word_off c.next_number-3.new.words c.next-2.new.self c.in-Some-next.field-0 c.next_number-3.ensures.text c.in-Some-next.ensures.steps).1 in
-    reads_back c.args.text.now _ c.utf8.text (too_many c.args.text.now c.in-Some.name.now _ _ _ _ c.next_number.result c.next_number-2.result c.next_number-3.result (ap words_of (sym rest) ∙ w) c.next_number.ensures.number c.next_number-2.ensures.number c.next_number-3.ensures.number c.in-Some-next.field-0.now _ _ refl more)
+pub no_word_left-requires : goal.no_word_left-requires
+no_word_left-requires c = c.next_number-3.ensures.text
 
-pub returns-in-None : goal.returns-in-None
-returns-in-None c =
+pub returns-in_err-no_word_left : goal.returns-in_err-no_word_left
+returns-in_err-no_word_left c =
     let rest = c.split_whitespace-words.ensures.rest in
     let u = subst IsUtf8 (sym rest) c.utf8.text in
     let w = (word_off c.split_whitespace-words.result c.next.new.self c.in-Some.name u c.in-Some.ensures.steps).1 in
-    let none = (none_off c.next_number-3.new.words c.next-2.new.self c.next_number-3.ensures.text c.in-None.ensures.steps).1 in
+    reads_back c.args.text.now _ c.utf8.text (too_many c.args.text.now c.in-Some.name.now _ _ _ _ c.next_number.result c.next_number-2.result c.next_number-3.result (ap words_of (sym rest) ∙ w) c.next_number.ensures.number c.next_number-2.ensures.number c.next_number-3.ensures.number _ c.from_residual-in_err-no_word_left.ensures.0 (λ e. false≢true (sym (ap is_ok c.in_err-no_word_left.was) ∙ c.no_word_left.ensures.1 e)))
+
+pub returns : goal.returns
+returns c =
+    let rest = c.split_whitespace-words.ensures.rest in
+    let u = subst IsUtf8 (sym rest) c.utf8.text in
+    let w = (word_off c.split_whitespace-words.result c.next.new.self c.in-Some.name u c.in-Some.ensures.steps).1 in
+    let none = c.no_word_left.ensures.0 (ap is_ok c.in_ok-no_word_left.was) in
     reads_back c.args.text.now _ c.utf8.text (just c.args.text.now c.in-Some.name.now _ _ _ _ c.next_number.result c.next_number-2.result c.next_number-3.result (ap words_of (sym rest) ∙ w) c.next_number.ensures.number c.next_number-2.ensures.number c.next_number-3.ensures.number _ _ _ c.call_of.result c.in_ok-first.was c.in_ok-second.was c.in_ok-third.was none c.call_of.ensures.named c.call_of.ensures.only)
