@@ -1,5 +1,5 @@
 -- The numbers that words say, word by word.
-use Rattle.std.proofs.Common.{arith, ◌≡◌, ℕ, suc, ◌<◌, ◌^◌, ◌↔◌, List, [], ◌∷◌, length, drop, refl, sym, ap, ◌∙◌, subst, Some, None, Option, Ok, Err, Result, IsErr, is_err}
+use Rattle.std.proofs.Common.{arith, ◌≡◌, ℕ, suc, ◌↔◌, List, [], ◌∷◌, length, drop, sym, ap, ◌∙◌, subst, Some, None, Option, Ok, Err, Result, IsErr, is_err}
 use Rattle.std.proofs.lemmas.Bool.{false≢true}
 use Rattle.std.specs.Str.Parse.{ParsesUnsigned}
 use Rattle.calls.specs.Reading.{SaysNumber, SayNumbers, first}
@@ -25,22 +25,25 @@ none_read r (word ∷ words) left e p q numbers = absurd (omega (arith, ap lengt
 
 one_read : {E : Type 0} (r : Result (Option ℕ) E) (word : List ℕ) (left : List (List ℕ)) (m : ℕ) → r ≡ Ok (Some m) → SaysNumber word m → IsRead (word ∷ left) r left
 one_read r word left m e s [] = (λ h. absurd h, λ h. absurd (omega (arith, ap told (sym e ∙ h.0))))
-one_read r word left m e s (n ∷ numbers) =
-    (λ h. (e ∙ ap (λ k. Ok (Some k)) (sym s.1 ∙ h.0.1), h.1),
-      λ h. let same : m ≡ n = omega (arith, ap told (sym e ∙ h.0)) in (subst (SaysNumber word) same s, h.1))
+one_read r word left m e s (n ∷ numbers) = (
+  λ h. (e ∙ ap (λ k. Ok (Some k)) (sym s.1 ∙ h.0.1), h.1),
+  λ h. let same : m ≡ n = omega (arith, ap told (sym e ∙ h.0)) in (subst (SaysNumber word) same s, h.1),
+)
 
 not_read : {E : Type 0} (r : Result (Option ℕ) E) (word : List ℕ) (left : List (List ℕ)) → IsErr r → ((n : ℕ) → SaysNumber word n → ⊥) → IsRead (word ∷ left) r left
 not_read r word left failed bad [] = (λ h. absurd h, λ h. absurd (not_ok (first []) r failed h.0))
 not_read r word left failed bad (n ∷ numbers) = (λ h. absurd (bad n h.0), λ h. absurd (not_ok (first (n ∷ numbers)) r failed h.0))
 
 -- a word that is parsed as a number says it
-pub number_read : {E F : Type 0} (p : Result ℕ F) (r : Result (Option ℕ) E) (word : List ℕ) (words left : List (List ℕ)) (m : ℕ) → ParsesUnsigned 16 10 word p → p ≡ Ok m → r ≡ Ok (Some m) → words ≡ word ∷ left → IsRead words r left
-number_read p r word words left m h is e w =
-    let k = subst (ParsesUnsigned 16 10 word) is h in
-    subst (λ l. IsRead l r left) (sym w) (one_read r word left m e (k.0.0, sym k.1, omega (arith, k.0.1, k.1)))
+pub says : {F : Type 0} (p : Result ℕ F) (word : List ℕ) (m : ℕ) → p ≡ Ok m → ParsesUnsigned 16 10 word p → SaysNumber word m
+says p word m is h = let k = subst (ParsesUnsigned 16 10 word) is h in (k.0.0, sym k.1, omega (arith, k.0.1, k.1))
 
 -- and one that isn't parsed says none
-pub number_refused : {E F : Type 0} (p : Result ℕ F) (r : Result (Option ℕ) E) (word : List ℕ) (words left : List (List ℕ)) (f : F) → ParsesUnsigned 16 10 word p → p ≡ Err f → IsErr r → words ≡ word ∷ left → IsRead words r left
-number_refused p r word words left f h is failed w =
-    let k = subst (ParsesUnsigned 16 10 word) is h in
-    subst (λ l. IsRead l r left) (sym w) (not_read r word left failed (λ n s. k (s.0, omega (arith, s.1, s.2))))
+pub says_none : {F : Type 0} (p : Result ℕ F) (word : List ℕ) (f : F) (n : ℕ) → p ≡ Err f → ParsesUnsigned 16 10 word p → SaysNumber word n → ⊥
+says_none p word f n is h s = (subst (ParsesUnsigned 16 10 word) is h) (s.0, omega (arith, s.1, s.2))
+
+pub number_read : {E : Type 0} (r : Result (Option ℕ) E) (word : List ℕ) (words left : List (List ℕ)) (m : ℕ) → SaysNumber word m → r ≡ Ok (Some m) → words ≡ word ∷ left → IsRead words r left
+number_read r word words left m s e w = subst (λ l. IsRead l r left) (sym w) (one_read r word left m e s)
+
+pub number_refused : {E : Type 0} (r : Result (Option ℕ) E) (word : List ℕ) (words left : List (List ℕ)) → ((n : ℕ) → SaysNumber word n → ⊥) → IsErr r → words ≡ word ∷ left → IsRead words r left
+number_refused r word words left bad failed w = subst (λ l. IsRead l r left) (sym w) (not_read r word left failed bad)

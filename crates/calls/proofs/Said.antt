@@ -53,10 +53,11 @@ module _ {F : Type 0} (text word : List ℕ) (one two three four : List (List �
       SayCall (words_of text) call ↔ ((word ≡ name_of call) × (r ≡ Ok (first numbers)) × (s ≡ Ok (first (drop 1 numbers))) × (t ≡ Ok (first (drop 1 (drop 1 numbers)))) × SayNumbers four [])
   said call =
       let n = named (words_of text) one word name call in
-      let numbers = numbers_of call in
-      (λ h. let i = n.0 h in let j = (a numbers).0 i.1 in let k = (b (drop 1 numbers)).0 j.1 in let l = (c (drop 1 (drop 1 numbers))).0 k.1 in
-        (i.0, j.0, k.0, l.0, subst (SayNumbers four) (no_fourth call) l.1),
-        λ h. n.1 (h.0, (a numbers).1 (h.1, (b (drop 1 numbers)).1 (h.2, (c (drop 1 (drop 1 numbers))).1 (h.3, subst (SayNumbers four) (sym (no_fourth call)) h.4)))))
+      let numbers = numbers_of call in (
+        λ h. let i = n.0 h in let j = (a numbers).0 i.1 in let k = (b (drop 1 numbers)).0 j.1 in let l = (c (drop 1 (drop 1 numbers))).0 k.1 in
+            (i.0, j.0, k.0, l.0, subst (SayNumbers four) (no_fourth call) l.1),
+        λ h. n.1 (h.0, (a numbers).1 (h.1, (b (drop 1 numbers)).1 (h.2, (c (drop 1 (drop 1 numbers))).1 (h.3, subst (SayNumbers four) (sym (no_fourth call)) h.4)))),
+      )
 
   -- a word too many
   pub too_many : {E : Type 0} (answer : Result Call E) → IsErr answer → (four ≡ [] → ⊥) → Reads text answer
@@ -68,13 +69,14 @@ module _ {F : Type 0} (text word : List ℕ) (one two three four : List (List �
 
   -- no word too many
   pub just : {E : Type 0} (x y z : Option ℕ) (answer : Result Call E) → r ≡ Ok x → s ≡ Ok y → t ≡ Ok z → four ≡ [] → ((call : Call) → word ≡ name_of call → x ∷ y ∷ z ∷ [] ≡ first_three (numbers_of call) → answer ≡ Ok call) → IfOk answer (λ call. (word ≡ name_of call) × (x ∷ y ∷ z ∷ [] ≡ first_three (numbers_of call))) → Reads text answer
-  just x y z answer p q o e named_so only call =
-      (λ is.
-          let h = subst (λ k. IfOk k (λ call. (word ≡ name_of call) × (x ∷ y ∷ z ∷ [] ≡ first_three (numbers_of call)))) is only in
-          (said call).1 (h.0, p ∙ ap (λ l. Ok (get_or l 0 None)) h.1, q ∙ ap (λ l. Ok (get_or l 1 None)) h.1, o ∙ ap (λ l. Ok (get_or l 2 None)) h.1, subst (λ l. SayNumbers l []) (sym e) tt),
-        λ h.
-          let k = (said call).0 h in
-          named_so call k.0 (λ i. value x (sym p ∙ k.1) i ∷ value y (sym q ∙ k.2) i ∷ value z (sym o ∙ k.3) i ∷ []))
+  just x y z answer p q o e named_so only call = (
+    λ is.
+        let h = subst (λ k. IfOk k (λ call. (word ≡ name_of call) × (x ∷ y ∷ z ∷ [] ≡ first_three (numbers_of call)))) is only in
+        (said call).1 (h.0, p ∙ ap (λ l. Ok (get_or l 0 None)) h.1, q ∙ ap (λ l. Ok (get_or l 1 None)) h.1, o ∙ ap (λ l. Ok (get_or l 2 None)) h.1, subst (λ l. SayNumbers l []) (sym e) tt),
+    λ h.
+        let k = (said call).0 h in
+        named_so call k.0 (λ i. value x (sym p ∙ k.1) i ∷ value y (sym q ∙ k.2) i ∷ value z (sym o ∙ k.3) i ∷ []),
+  )
     where
       value_or : Option ℕ → Result (Option ℕ) F → Option ℕ
       value_or d (Ok v) = v

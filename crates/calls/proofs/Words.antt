@@ -1,8 +1,8 @@
 -- The words of a text, as `split_whitespace` takes them off.
-use Rattle.std.proofs.Common.{arith, ◌≡◌, ℕ, ◌<◌, true, false, not, ◌&&◌, cond, List, [], ◌∷◌, ◌++◌, length, refl, sym, ap, ◌∙◌, subst, Some, None, Option, Bor, IsUtf8}
+use Rattle.std.proofs.Common.{arith, ◌≡◌, ℕ, ◌<◌, true, false, ◌&&◌, cond, List, [], ◌∷◌, ◌++◌, length, refl, sym, ap, ◌∙◌, subst, Some, None, Option, Bor, IsUtf8}
 use Rattle.std.proofs.lemmas.List.{length-append, append-nil, append_assoc}
 use Rattle.std.proofs.lemmas.Bool.{false≢true}
-use Rattle.std.proofs.lemmas.Str.{chars_from_encodes, cons_from_encodes, encode_same, encodes_same, encodes-append, length-encode, len_utf8_bounds}
+use Rattle.std.proofs.lemmas.Str.{chars_from_encodes, cons_from_encodes, encode_same, length-encode, len_utf8_bounds}
 use lib.Utf8.{scalar, scalars, encode, encodes}
 use Rattle.std.specs.Char.{is_whitespace, is_not_whitespace}
 use Rattle.std.specs.Str.{NonePass, EmptyOrStartsWithPassing}
@@ -63,15 +63,16 @@ word_off s t x u h =
     let gap = h.3 in let word = h.4 in
     let a = front_off gap.0 u.0 (x.now ++ split_whitespace_rest t) (u.1.1 ∙ h.1 ∙ ap (λ l. l ++ (x.now ++ split_whitespace_rest t)) (sym gap.1)) in
     let b = front_off word.0 a.0 (split_whitespace_rest t) (a.2 ∙ ap (λ l. l ++ split_whitespace_rest t) (sym word.1)) in
-    let left : IsUtf8 (split_whitespace_rest t) = (b.0, (scalars_after word.0 b.0 (subst (λ l. scalars l ≡ true) b.1 (scalars_after gap.0 a.0 (subst (λ l. scalars l ≡ true) a.1 u.1.0))), b.2)) in
-    (left,
+    let left : IsUtf8 (split_whitespace_rest t) = (b.0, (scalars_after word.0 b.0 (subst (λ l. scalars l ≡ true) b.1 (scalars_after gap.0 a.0 (subst (λ l. scalars l ≡ true) a.1 u.1.0))), b.2)) in (
+      left,
       ap (words_from []) (sym (chars_from_encodes u.0 (split_whitespace_rest s) u u.1.1) ∙ a.1 ∙ ap (λ l. gap.0 ++ l) b.1)
-      ∙ white_off gap.0 (word.0 ++ b.0) gap.2
-      ∙ gathered [] word.0 b.0 word.2
-      ∙ ap (λ v. words_from v b.0) word.1
-      ∙ ended_by x.now b.0 h.5.0 (subst (λ r. EmptyOrStartsWithPassing is_whitespace r h.5.0) (sym b.2) h.5.1)
-      ∙ some_word x.now (words_from [] b.0) h.2
-      ∙ ap (λ l. x.now ∷ words_from [] l) (chars_from_encodes b.0 (split_whitespace_rest t) left b.2))
+          ∙ white_off gap.0 (word.0 ++ b.0) gap.2
+          ∙ gathered [] word.0 b.0 word.2
+          ∙ ap (λ v. words_from v b.0) word.1
+          ∙ ended_by x.now b.0 h.5.0 (subst (λ r. EmptyOrStartsWithPassing is_whitespace r h.5.0) (sym b.2) h.5.1)
+          ∙ some_word x.now (words_from [] b.0) h.2
+          ∙ ap (λ l. x.now ∷ words_from [] l) (chars_from_encodes b.0 (split_whitespace_rest t) left b.2),
+    )
 
 -- and none
 pub none_off : (s t : SplitWhitespace) → IsUtf8 (split_whitespace_rest s) → split_whitespace_steps s None t → (t ≡ s) × (words_of (split_whitespace_rest s) ≡ [])

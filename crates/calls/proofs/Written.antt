@@ -1,5 +1,5 @@
 -- The words of a call as it is written say that call.
-use Rattle.std.proofs.Common.{arith, ◌≡◌, ℕ, zero, suc, ◌<◌, ◌^◌, Bool, true, false, not, ◌&&◌, nat_lt, List, [], ◌∷◌, ◌++◌, map, length, refl, sym, ap, ◌∙◌, subst, Ok, Result, codes, IsUtf8}
+use Rattle.std.proofs.Common.{arith, ◌≡◌, ℕ, suc, ◌<◌, ◌^◌, Bool, true, false, not, ◌&&◌, nat_lt, List, [], ◌∷◌, ◌++◌, map, length, refl, sym, ap, ◌∙◌, subst, Result, codes, IsUtf8}
 use Rattle.std.specs.Prelude.{⊤}
 use Rattle.std.proofs.lemmas.Bool.{false≢true}
 use Rattle.std.proofs.lemmas.Bool.Decides.{nat_tests}
@@ -130,7 +130,7 @@ numbered_same (n ∷ ns) f =
     let h = (decimal_numeral n (f 0 0 (omega arith))).0 in
     ap (λ l. l ++ encodes (decimal n ++ numbered ns)) (encode_ascii 32 (omega arith))
     ∙ ap (λ l. 32 ∷ l) (encodes-append (decimal n) (numbered ns)
-      ∙ (λ i. plain_same (decimal n) (digits_plain (decimal n) h.1) i ++ numbered_same ns (λ k d l. f (suc k) d (omega (arith, l))) i))
+    ∙ (λ i. plain_same (decimal n) (digits_plain (decimal n) h.1) i ++ numbered_same ns (λ k d l. f (suc k) d (omega (arith, l))) i))
 
 written_same : (call : Call) → Fit (numbers_of call) → encodes (written call) ≡ written call
 written_same call f =
@@ -141,8 +141,8 @@ written_says : (text : List ℕ) (call : Call) → IsUtf8 text → Fit (numbers_
 written_says text call u f e =
     subst (λ ws. SayCall ws call)
     (sym (ap (words_from []) (sym (chars_from_encodes (written call) text u (written_same call f ∙ sym e)))
-      ∙ word_before (name_of call) (numbers_of call) (name_plain call) (name_some call)
-      ∙ ap (λ ws. name_of call ∷ ws) (number_words (numbers_of call) f)))
+    ∙ word_before (name_of call) (numbers_of call) (name_plain call) (name_some call)
+    ∙ ap (λ ws. name_of call ∷ ws) (number_words (numbers_of call) f)))
     (refl, decimals_say (numbers_of call) f)
 
 -- so a reader that reads as it should reads them back

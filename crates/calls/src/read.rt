@@ -1,9 +1,9 @@
 // Reading calls as they are written.
-ghost use Rattle.std.specs.Prelude.{◌≡◌, ℕ, ◌↔◌, List, [], ◌∷◌, drop, Ok, IsOk, IfOk, IsUtf8};
+ghost use Rattle.std.specs.Prelude.{◌≡◌, ℕ, ◌↔◌, List, [], ◌∷◌, drop, Ok, IsOk, IfOk, OnErr, IsUtf8};
 ghost use Rattle.std.specs.Str.Iter.{split_whitespace_rest};
 ghost use Rattle.calls.specs.declared.call.Call.{Call};
 ghost use Rattle.calls.specs.Written.{name_of, numbers_of};
-ghost use Rattle.calls.specs.Reading.{words_of, SayNumbers, Reads, ReadsBack, first, first_three};
+ghost use Rattle.calls.specs.Reading.{words_of, SaysNumber, SayNumbers, Reads, ReadsBack, first, first_three};
 
 use crate::call::Call;
 use std::num::ParseIntError;
@@ -49,8 +49,17 @@ fn next_number(words: &mut SplitWhitespace) -> Result<Option<u16>, NotACall>
 {
     match words.next() {
         None => Ok(None),
-        Some(word) => Ok(Some(word.parse()?)),
+        Some(word) => Ok(Some(number(word)?)),
     }
+}
+
+// The number that a word says.
+#[tactic(auto, using(crate::proofs::Numbers::says, crate::proofs::Numbers::says_none))]
+fn number(word: &str) -> Result<u16, NotACall>
+    ensures says { IfOk result (λ n. SaysNumber word.now n) }
+    ensures none { OnErr result ((n : ℕ) → ¬ (SaysNumber word.now n)) }
+{
+    Ok(word.parse()?)
 }
 
 // Refuses a word too many.

@@ -1,6 +1,5 @@
-use Rattle.std.proofs.Common.{◌≡◌, refl, sym, ap, ◌∙◌, subst, [], ◌∷◌, IsUtf8, IsErr, is_err, is_ok}
+use Rattle.std.proofs.Common.{refl, sym, ap, ◌∙◌, subst, IsUtf8, is_err, is_ok}
 use Rattle.std.proofs.lemmas.Bool.{false≢true}
-use Rattle.std.specs.Str.Iter.{split_whitespace_rest}
 use Rattle.calls.specs.Reading.{words_of}
 use Rattle.calls.proofs.Words.{word_off, none_off}
 use Rattle.calls.proofs.Said.{stuck, passed, no_name, no_numbers, too_many, just}
