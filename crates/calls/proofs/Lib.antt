@@ -1,5 +1,7 @@
-pub mod Pieces
 pub mod Words
+pub mod Numbers
+pub mod Said
+pub mod Written
 pub mod Making
 pub mod Playing
 pub mod Following

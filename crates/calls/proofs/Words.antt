@@ -1,82 +1,84 @@
--- The first word of a text, as `split_whitespace` takes it off.
-use Rattle.std.proofs.Common.{arith, ◌≡◌, ℕ, ◌<◌, false, not, List, [], ◌∷◌, ◌++◌, length, get_or, drop, refl, sym, ap, ◌∙◌, ⊎_elim}
-use Rattle.std.proofs.lemmas.List.{length-append, get_or_append_left}
-use Rattle.std.proofs.lemmas.Str.{NoCharPasses-byte, inside_one, length-encode}
-use Rattle.std.proofs.lemmas.Bool.{true≢false, cases_order}
-use Rattle.std.proofs.lemmas.Bool.Decides.{nat_tests}
-use lib.Utf8.{encode}
+-- The words of a text, as `split_whitespace` takes them off.
+use Rattle.std.proofs.Common.{arith, ◌≡◌, ℕ, ◌<◌, true, false, ◌&&◌, cond, List, [], ◌∷◌, ◌++◌, length, refl, sym, ap, ◌∙◌, subst, Some, None, Option, Bor, IsUtf8}
+use Rattle.std.proofs.lemmas.List.{length-append, append-nil, append_assoc}
+use Rattle.std.proofs.lemmas.Bool.{false≢true}
+use Rattle.std.proofs.lemmas.Str.{chars_from_encodes, cons_from_encodes, encode_same, length-encode, len_utf8_bounds}
+use lib.Utf8.{scalar, scalars, encode, encodes}
 use Rattle.std.specs.Char.{is_whitespace, is_not_whitespace}
-use Rattle.std.specs.Str.{NoCharPasses, EmptyOrStartsWithPassing}
+use Rattle.std.specs.Str.{NonePass, EmptyOrStartsWithPassing}
+use Rattle.std.specs.Str.Iter.{split_whitespace_rest, split_whitespace_steps}
+use Rattle.std.specs.declared.str.SplitWhitespace.{SplitWhitespace}
+use Rattle.calls.specs.Reading.{with_word, words_from, words_of}
 
--- bytes of ASCII that are not white space, one at least
-pub record IsWord (w : List ℕ) : Type 0 where
-  pub some : 0 < length w
-  pub ascii : (i : ℕ) → i < length w → get_or w i 0 < 128
-  pub solid : (i : ℕ) → i < length w → is_whitespace (get_or w i 0) ≡ false
+-- a front of a text, in characters
+front_off : (xs cs r : List ℕ) → encodes cs ≡ encodes xs ++ r → (es : List ℕ) × (cs ≡ xs ++ es) × (encodes es ≡ r)
+front_off [] cs r e = (cs, refl, e)
+front_off (x ∷ xs) cs r e =
+    let h = cons_from_encodes cs (encodes xs ++ r) x (e ∙ append_assoc (encode x) (encodes xs) r) in
+    let k = front_off xs h.0 r h.2 in
+    (k.0, h.1 ∙ ap (λ l. x ∷ l) k.1, k.2)
 
--- blanks, or none
-abbrev pub Blanks : List ℕ → Type 0
-Blanks g = (i : ℕ) → i < length g → get_or g i 0 ≡ 32
-
--- no bytes, or a blank first
-abbrev pub Stops : List ℕ → Type 0
-Stops r = 0 < length r → get_or r 0 0 ≡ 32
-
--- where two fronts of one text are as long, they are equal, and so is what follows
-same_front : (a b c d : List ℕ) → a ++ b ≡ c ++ d → length a ≡ length c → (a ≡ c) × (b ≡ d)
-same_front [] b [] d e l = (refl, e)
-same_front [] b (y ∷ c) d e l = absurd (omega (arith, l))
-same_front (x ∷ a) b [] d e l = absurd (omega (arith, l))
-same_front (x ∷ a) b (y ∷ c) d e l =
-    let h = same_front a b c d (ap (drop 1) e) (omega (arith, l)) in
-    (ap (λ z. z ∷ a) (ap (λ z. get_or z 0 0) e) ∙ ap (λ z. y ∷ z) h.0, h.1)
-
--- the first byte after a front
-after_front : (a b : List ℕ) → get_or (a ++ b) (length a) 0 ≡ get_or b 0 0
-after_front [] b = refl
-after_front (x ∷ a) b = after_front a b
-
--- where one front of a text is longer, it has the byte after the other
-longer : (a b c d : List ℕ) → a ++ b ≡ c ++ d → length a < length c → get_or c (length a) 0 ≡ get_or b 0 0
-longer a b c d e l = sym (get_or_append_left c d 0 (length a) l) ∙ (ap (λ z. get_or z (length a) 0) (sym e) ∙ after_front a b)
-
--- blanks are white space
-not_blank : (x : List ℕ) (i : ℕ) → i < length x → NoCharPasses is_whitespace x → get_or x i 0 ≡ 32 → ⊥
-not_blank x i l n e = true≢false (sym (ap is_whitespace e) ∙ NoCharPasses-byte is_whitespace x i n l (omega (arith, e)))
-
--- the bytes of words are not
-pub not_solid : (g : List ℕ) (i c : ℕ) → i < length g → NoCharPasses is_not_whitespace g → get_or g i 0 ≡ c → c < 128 → is_whitespace c ≡ false → ⊥
-not_solid g i c l n e a s = true≢false (sym (ap is_not_whitespace e ∙ ap not s) ∙ NoCharPasses-byte is_not_whitespace g i n l (omega (arith, e, a)))
-
--- after blanks and a word, the gap passed over is the blanks
-same_gap : (g w r gap y : List ℕ) → Blanks g → IsWord w → g ++ (w ++ r) ≡ gap ++ y → NoCharPasses is_not_whitespace gap → length g < length gap → ⊥
-same_gap g w r gap y b k e n l =
-    not_solid gap (length g) (get_or w 0 0) l n (longer g (w ++ r) gap y e l ∙ get_or_append_left w r 0 0 k.some) (k.ascii 0 k.some) (k.solid 0 k.some)
-
-pub no_less : (g y gap x t : List ℕ) → Blanks g → g ++ y ≡ gap ++ (x ++ t) → 0 < length x → NoCharPasses is_whitespace x → length gap < length g → ⊥
-no_less g y gap x t b e p n l =
-    not_blank x 0 p n (sym (get_or_append_left x t 0 0 p) ∙ (sym (longer gap (x ++ t) g y (sym e) l) ∙ b (length gap) l))
-
--- the word ends before a blank, and not sooner
-no_more : (w r x t : List ℕ) → Stops r → w ++ r ≡ x ++ t → NoCharPasses is_whitespace x → length w < length x → ⊥
-no_more w r x t s e n l =
-    not_blank x (length w) l n (longer w r x t e l ∙ s (omega (arith, l, ap length e, length-append w r, length-append x t)))
-
-no_sooner : (w r x t more : List ℕ) → IsWord w → w ++ r ≡ x ++ t → EmptyOrStartsWithPassing is_whitespace t more → length x < length w → ⊥
-no_sooner w r x t more k e s l =
-    let c = s (omega (arith, l, ap length e, length-append w r, length-append x t)) in
-    let h : get_or w (length x) 0 ≡ get_or t 0 0 = longer x t w r (sym e) l in
-    let a : get_or t 0 0 < 128 = omega (arith, h, k.ascii (length x) l) in
-    let o : c.0 ≡ get_or t 0 0 = inside_one c.0 more t 0 c.2 (encode_some c.0) a in
-    true≢false (sym c.1 ∙ (ap is_whitespace (o ∙ sym h) ∙ k.solid (length x) l))
+scalars_after : (xs ys : List ℕ) → scalars (xs ++ ys) ≡ true → scalars ys ≡ true
+scalars_after [] ys s = s
+scalars_after (x ∷ xs) ys s = scalars_after xs ys (second (scalar x) s)
   where
-    encode_some : (c : ℕ) → 0 < length (encode c)
-    encode_some c = grind (arith, length-encode c, nat_tests)
+    second : {p : _} (q : _) → (q && p) ≡ true → p ≡ true
+    second true e = e
+    second false e = absurd (false≢true e)
 
--- after blanks, a word, and no bytes or a blank, that word comes off
-pub first_word : (g w r gap x t more : List ℕ) → Blanks g → IsWord w → Stops r → g ++ (w ++ r) ≡ gap ++ (x ++ t) → 0 < length x → NoCharPasses is_not_whitespace gap → NoCharPasses is_whitespace x → EmptyOrStartsWithPassing is_whitespace t more → (x ≡ w) × (t ≡ r)
-first_word g w r gap x t more b k s e p n m z =
-    let same : length g ≡ length gap = ⊎_elim (λ q. q) (λ q. ⊎_elim (λ l. absurd (same_gap g w r gap (x ++ t) b k e n l)) (λ l. absurd (no_less g (w ++ r) gap x t b e p m l)) q) (cases_order (length g) (length gap)) in
-    let f = same_front g (w ++ r) gap (x ++ t) e same in
-    let long : length x ≡ length w = ⊎_elim (λ q. q) (λ q. ⊎_elim (λ l. absurd (no_sooner w r x t more k f.1 z l)) (λ l. absurd (no_more w r x t s f.1 m l)) q) (cases_order (length x) (length w)) in
-    same_front x t w r (sym f.1) long
+white : (c : ℕ) → is_not_whitespace c ≡ false → is_whitespace c ≡ true
+white c e = grind (arith, e)
+
+-- white space is passed over
+pub white_off : (gs cs : List ℕ) → NonePass is_not_whitespace gs → words_from [] (gs ++ cs) ≡ words_from [] cs
+white_off [] cs n = refl
+white_off (g ∷ gs) cs n = ap (λ b. cond b (words_from [] (gs ++ cs)) (words_from (encode g) (gs ++ cs))) (white g n.0) ∙ white_off gs cs n.1
+
+-- the characters of a word are gathered
+pub gathered : (w xs cs : List ℕ) → NonePass is_whitespace xs → words_from w (xs ++ cs) ≡ words_from (w ++ encodes xs) cs
+gathered w [] cs n = ap (λ v. words_from v cs) (sym (append-nil w))
+gathered w (x ∷ xs) cs n =
+    ap (λ b. cond b (with_word w (words_from [] (xs ++ cs))) (words_from (w ++ encode x) (xs ++ cs))) n.0
+    ∙ gathered (w ++ encode x) xs cs n.1 ∙ ap (λ v. words_from v cs) (append_assoc w (encode x) (encodes xs))
+
+-- and it ends before white space
+pub ended : (w : List ℕ) (c : ℕ) (cs : List ℕ) → is_whitespace c ≡ true → words_from w (c ∷ cs) ≡ with_word w (words_from [] (c ∷ cs))
+ended w c cs e =
+    ap (λ b. cond b (with_word w (words_from [] cs)) (words_from (w ++ encode c) cs)) e
+    ∙ sym (ap (λ b. with_word w (cond b (words_from [] cs) (words_from (encode c) cs))) e)
+
+ended_by : (w es more : List ℕ) → EmptyOrStartsWithPassing is_whitespace (encodes es) more → words_from w es ≡ with_word w (words_from [] es)
+ended_by w [] more s = refl
+ended_by w (e ∷ es) more s =
+    let h = s (omega (arith, length-append (encode e) (encodes es), length-encode e, len_utf8_bounds e)) in
+    ended w e es (ap is_whitespace (encode_same e h.0 (encodes es) more h.2).0 ∙ h.1)
+
+pub some_word : (w : List ℕ) (ws : List (List ℕ)) → 0 < length w → with_word w ws ≡ w ∷ ws
+some_word [] ws l = absurd (omega (arith, l))
+some_word (b ∷ bs) ws l = refl
+
+-- a word comes off
+pub word_off : (s t : SplitWhitespace) (x : Bor (List ℕ)) → IsUtf8 (split_whitespace_rest s) → split_whitespace_steps s (Some x) t → IsUtf8 (split_whitespace_rest t) × (words_of (split_whitespace_rest s) ≡ x.now ∷ words_of (split_whitespace_rest t))
+word_off s t x u h =
+    let gap = h.3 in let word = h.4 in
+    let a = front_off gap.0 u.0 (x.now ++ split_whitespace_rest t) (u.1.1 ∙ h.1 ∙ ap (λ l. l ++ (x.now ++ split_whitespace_rest t)) (sym gap.1)) in
+    let b = front_off word.0 a.0 (split_whitespace_rest t) (a.2 ∙ ap (λ l. l ++ split_whitespace_rest t) (sym word.1)) in
+    let left : IsUtf8 (split_whitespace_rest t) = (b.0, (scalars_after word.0 b.0 (subst (λ l. scalars l ≡ true) b.1 (scalars_after gap.0 a.0 (subst (λ l. scalars l ≡ true) a.1 u.1.0))), b.2)) in (
+      left,
+      ap (words_from []) (sym (chars_from_encodes u.0 (split_whitespace_rest s) u u.1.1) ∙ a.1 ∙ ap (λ l. gap.0 ++ l) b.1)
+          ∙ white_off gap.0 (word.0 ++ b.0) gap.2
+          ∙ gathered [] word.0 b.0 word.2
+          ∙ ap (λ v. words_from v b.0) word.1
+          ∙ ended_by x.now b.0 h.5.0 (subst (λ r. EmptyOrStartsWithPassing is_whitespace r h.5.0) (sym b.2) h.5.1)
+          ∙ some_word x.now (words_from [] b.0) h.2
+          ∙ ap (λ l. x.now ∷ words_from [] l) (chars_from_encodes b.0 (split_whitespace_rest t) left b.2),
+    )
+
+-- and none
+pub none_off : (s t : SplitWhitespace) → IsUtf8 (split_whitespace_rest s) → split_whitespace_steps s None t → (t ≡ s) × (words_of (split_whitespace_rest s) ≡ [])
+none_off s t u h =
+    (h.0, ap (words_from []) (sym (chars_from_encodes h.1.0 (split_whitespace_rest s) u h.1.1) ∙ sym (append-nil h.1.0)) ∙ white_off h.1.0 [] h.1.2)
+
+-- where a word comes off there are words
+pub some_left : (s t : SplitWhitespace) (r : Option (Bor (List ℕ))) (x : Bor (List ℕ)) → r ≡ Some x → split_whitespace_steps s r t → IsUtf8 (split_whitespace_rest s) → words_of (split_whitespace_rest s) ≡ [] → ⊥
+some_left s t r x is h u e = omega (arith, ap length (sym e ∙ (word_off s t x u (subst (λ o. split_whitespace_steps s o t) is h)).1))

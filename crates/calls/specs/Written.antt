@@ -1,5 +1,5 @@
--- How a call is written, by its name and its numbers, and what is read of that.
-use Rattle.std.specs.Prelude.{◌≡◌, ℕ, ◌<◌, ◌^◌, List, [], ◌∷◌, ◌++◌, Ok, Result, codes, flat_map, drop, All, Option, Some, None}
+-- How a call is written, by its name and its numbers.
+use Rattle.std.specs.Prelude.{ℕ, List, [], ◌∷◌, ◌++◌, codes, flat_map}
 use Rattle.std.specs.Fmt.{decimal}
 use Rattle.calls.specs.declared.call.Call.{Call}
 use Rattle.calls.specs.declared.call.Call.TheVariants.{Open, Delegate, Yield, Merge, Assign, SetDay, Count, Issued, Today, LeaseAt, LeaseOf, Recall, Day, Standing, HandIn}
@@ -47,20 +47,3 @@ numbered numbers = flat_map (λ n. codes " " ++ decimal n) numbers
 -- the call as it is written
 abbrev pub written : Call → List ℕ
 written call = name_of call ++ numbered (numbers_of call)
-
--- numbers of 16 bits, as the code has them
-abbrev pub Fit : List ℕ → Type 0
-Fit numbers = All (λ n. n < 2 ^ 16) numbers
-
--- What is read of a call as it is written is that call.
-abbrev pub ReadsBack : {E : Type 0} → List ℕ → Result Call E → Type 0
-ReadsBack text answer = (call : Call) → Fit (numbers_of call) → text ≡ written call → answer ≡ Ok call
-
--- the first number, if there is one
-abbrev pub first : List ℕ → Option ℕ
-first [] = None
-first (n ∷ numbers) = Some n
-
--- the first three, as far as there are so many
-abbrev pub first_three : List ℕ → List (Option ℕ)
-first_three numbers = first numbers ∷ first (drop 1 numbers) ∷ first (drop 1 (drop 1 numbers)) ∷ []

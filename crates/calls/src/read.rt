@@ -1,8 +1,9 @@
 // Reading calls as they are written.
-ghost use Rattle.std.specs.Prelude.{◌≡◌, ℕ, List, [], ◌∷◌, drop, Ok, Some};
+ghost use Rattle.std.specs.Prelude.{◌≡◌, ℕ, ◌↔◌, List, [], ◌∷◌, drop, Ok, IsOk, IfOk, OnErr, IsUtf8};
 ghost use Rattle.std.specs.Str.Iter.{split_whitespace_rest};
 ghost use Rattle.calls.specs.declared.call.Call.{Call};
-ghost use Rattle.calls.specs.Written.{name_of, numbers_of, numbered, Fit, ReadsBack, first, first_three};
+ghost use Rattle.calls.specs.Written.{name_of, numbers_of};
+ghost use Rattle.calls.specs.Reading.{words_of, SaysNumber, SayNumbers, Reads, ReadsBack, first, first_three};
 
 use crate::call::Call;
 use std::num::ParseIntError;
@@ -24,7 +25,7 @@ impl From<ParseIntError> for NotACall {
 impl FromStr for Call {
     type Err = NotACall;
 
-    ghost from_str_gives = { ReadsBack };
+    ghost from_str_gives = { λ text answer. Reads text answer × ReadsBack text answer };
 
     fn from_str(text: &str) -> Result<Call, NotACall> {
         let mut words = text.split_whitespace();
@@ -34,43 +35,63 @@ impl FromStr for Call {
         let first = next_number(&mut words)?;
         let second = next_number(&mut words)?;
         let third = next_number(&mut words)?;
-        match words.next() {
-            None => call_of(name, [first, second, third]),
-            Some(_) => Err(NotACall),
-        }
+        no_word_left(&mut words)?;
+        call_of(name, [first, second, third])
     }
 }
 
 // The next word as a number, if there is one. (With `map` and `transpose` its proof didn't close.)
 fn next_number(words: &mut SplitWhitespace) -> Result<Option<u16>, NotACall>
-    ensures { (numbers : List ℕ) → Fit numbers → split_whitespace_rest words.old ≡ numbered numbers → (result ≡ Ok (first numbers)) × (split_whitespace_rest words.new ≡ numbered (drop 1 numbers)) }
+    requires { IsUtf8 (split_whitespace_rest words.old) }
+    ensures text { IsUtf8 (split_whitespace_rest words.new) }
+    ensures number { (numbers : List ℕ) → SayNumbers (words_of (split_whitespace_rest words.old)) numbers
+        ↔ ((result ≡ Ok (first numbers)) × SayNumbers (words_of (split_whitespace_rest words.new)) (drop 1 numbers)) }
 {
     match words.next() {
         None => Ok(None),
-        Some(word) => Ok(Some(word.parse()?)),
+        Some(word) => Ok(Some(number(word)?)),
+    }
+}
+
+// The number that a word says.
+#[tactic(auto, using(crate::proofs::Numbers::says, crate::proofs::Numbers::says_none))]
+fn number(word: &str) -> Result<u16, NotACall>
+    ensures says { IfOk result (λ n. SaysNumber word.now n) }
+    ensures none { OnErr result ((n : ℕ) → ¬ (SaysNumber word.now n)) }
+{
+    Ok(word.parse()?)
+}
+
+// Refuses a word too many.
+#[tactic(auto, using(crate::proofs::Words::some_left, crate::proofs::Words::none_off))]
+fn no_word_left(words: &mut SplitWhitespace) -> Result<(), NotACall>
+    requires { IsUtf8 (split_whitespace_rest words.old) }
+    ensures { IsOk result ↔ (words_of (split_whitespace_rest words.old) ≡ []) }
+{
+    match words.next() {
+        None => Ok(()),
+        Some(_) => Err(NotACall),
     }
 }
 
 // The call with this name and these numbers.
 fn call_of(name: &str, numbers: [Option<u16>; 3]) -> Result<Call, NotACall>
-    ensures { (call : Call) → name.now ≡ name_of call → numbers ≡ first_three (numbers_of call) → result ≡ Ok call }
+    ensures named { (call : Call) → name.now ≡ name_of call → numbers ≡ first_three (numbers_of call) → result ≡ Ok call }
+    ensures only { IfOk result (λ call. (name.now ≡ name_of call) × (numbers ≡ first_three (numbers_of call))) }
 {
     match numbers {
         [None, None, None] => bare_call(name),
         [Some(n), None, None] => call_of_one(name, n),
         [Some(a), Some(b), None] => call_of_two(name, a, b),
-        [Some(lender), Some(holder), Some(due)] if name == "delegate" => Ok(Call::Delegate {
-            lender,
-            holder,
-            due,
-        }),
+        [Some(a), Some(b), Some(c)] => call_of_three(name, a, b, c),
         _ => Err(NotACall),
     }
 }
 
 // The call with this name and no number.
 fn bare_call(name: &str) -> Result<Call, NotACall>
-    ensures { (call : Call) → name.now ≡ name_of call → numbers_of call ≡ [] → result ≡ Ok call }
+    ensures named { (call : Call) → name.now ≡ name_of call → numbers_of call ≡ [] → result ≡ Ok call }
+    ensures only { IfOk result (λ call. (name.now ≡ name_of call) × (numbers_of call ≡ [])) }
 {
     Ok(match name {
         "count" => Call::Count,
@@ -82,7 +103,8 @@ fn bare_call(name: &str) -> Result<Call, NotACall>
 
 // The call with this name and one number.
 fn call_of_one(name: &str, n: u16) -> Result<Call, NotACall>
-    ensures { (call : Call) → name.now ≡ name_of call → numbers_of call ≡ n ∷ [] → result ≡ Ok call }
+    ensures named { (call : Call) → name.now ≡ name_of call → numbers_of call ≡ n ∷ [] → result ≡ Ok call }
+    ensures only { IfOk result (λ call. (name.now ≡ name_of call) × (numbers_of call ≡ n ∷ [])) }
 {
     Ok(match name {
         "yield" => Call::Yield { lease: n },
@@ -98,7 +120,8 @@ fn call_of_one(name: &str, n: u16) -> Result<Call, NotACall>
 
 // The call with this name and two numbers.
 fn call_of_two(name: &str, a: u16, b: u16) -> Result<Call, NotACall>
-    ensures { (call : Call) → name.now ≡ name_of call → numbers_of call ≡ a ∷ b ∷ [] → result ≡ Ok call }
+    ensures named { (call : Call) → name.now ≡ name_of call → numbers_of call ≡ a ∷ b ∷ [] → result ≡ Ok call }
+    ensures only { IfOk result (λ call. (name.now ≡ name_of call) × (numbers_of call ≡ a ∷ b ∷ [])) }
 {
     Ok(match name {
         "open" => Call::Open {
@@ -113,6 +136,21 @@ fn call_of_two(name: &str, a: u16, b: u16) -> Result<Call, NotACall>
         "standing" => Call::Standing {
             resource: a,
             holder: b,
+        },
+        _ => return Err(NotACall),
+    })
+}
+
+// The call with this name and three numbers.
+fn call_of_three(name: &str, a: u16, b: u16, c: u16) -> Result<Call, NotACall>
+    ensures named { (call : Call) → name.now ≡ name_of call → numbers_of call ≡ a ∷ b ∷ c ∷ [] → result ≡ Ok call }
+    ensures only { IfOk result (λ call. (name.now ≡ name_of call) × (numbers_of call ≡ a ∷ b ∷ c ∷ [])) }
+{
+    Ok(match name {
+        "delegate" => Call::Delegate {
+            lender: a,
+            holder: b,
+            due: c,
         },
         _ => return Err(NotACall),
     })

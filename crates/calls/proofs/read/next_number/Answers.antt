@@ -1,25 +1,25 @@
-use Rattle.std.proofs.Common.{[], ◌∷◌, arith, refl, ap, ◌∙◌, Ok, Some}
-use Rattle.std.proofs.lemmas.Fmt.{parse-decimal}
+use Rattle.std.proofs.Common.{refl, ap, ◌∙◌}
 use Rattle.std.specs.Str.Iter.{split_whitespace_rest}
-use Rattle.calls.proofs.Pieces.{number_off, number_left, none_off, not_ok, same_value}
+use Rattle.calls.specs.Reading.{words_of}
+use Rattle.calls.proofs.Words.{word_off, none_off}
+use Rattle.calls.proofs.Numbers.{none_read, number_read, number_refused}
 use Rattle.calls.proofs.read.next_number.Goals as goal
 
-pub returns-in-None : goal.returns-in-None
-returns-in-None c [] f e = (refl, ap split_whitespace_rest c.in-None.ensures.steps.0 ∙ e)
-returns-in-None c (n ∷ ns) f e = absurd (number_left n ns c.args.words.now (f 0 0 (omega arith)) e c.in-None.ensures.steps.1)
+pub returns-in-None-clause-number : goal.returns-in-None-clause-number
+returns-in-None-clause-number c =
+    let h = none_off c.args.words.now c.next.new.self c.requires c.in-None.ensures.steps in
+    none_read _ _ _ refl h.1 (ap (λ s. words_of (split_whitespace_rest s)) h.0 ∙ h.1)
 
-pub returns-in_ok-parse-in-Some : goal.returns-in_ok-parse-in-Some
-returns-in_ok-parse-in-Some c [] f e = absurd (none_off c.args.words.now c.next.new.self c.in-Some.word e c.in-Some.ensures.steps)
-returns-in_ok-parse-in-Some c (n ∷ ns) f e =
-    let l = f 0 0 (omega arith) in
-    let h = number_off n ns c.args.words.now c.next.new.self c.in-Some.word l e c.in-Some.ensures.steps in
-    let p = parse-decimal 16 n c.in-Some.word.now c.parse.result l (omega (arith, l)) h.0 c.parse.ensures.value.0 in
-    (ap (λ x. Ok (Some x)) (same_value c.in_ok-parse-in-Some.field-0 n c.parse.result c.in_ok-parse-in-Some.was p), h.1)
+pub returns-in_ok-number-in-Some-clause-text : goal.returns-in_ok-number-in-Some-clause-text
+returns-in_ok-number-in-Some-clause-text c = (word_off c.args.words.now c.next.new.self c.in-Some.word c.requires c.in-Some.ensures.steps).0
 
-pub returns-in_err-parse-in-Some : goal.returns-in_err-parse-in-Some
-returns-in_err-parse-in-Some c [] f e = absurd (none_off c.args.words.now c.next.new.self c.in-Some.word e c.in-Some.ensures.steps)
-returns-in_err-parse-in-Some c (n ∷ ns) f e =
-    let l = f 0 0 (omega arith) in
-    let h = number_off n ns c.args.words.now c.next.new.self c.in-Some.word l e c.in-Some.ensures.steps in
-    let p = parse-decimal 16 n c.in-Some.word.now c.parse.result l (omega (arith, l)) h.0 c.parse.ensures.value.0 in
-    absurd (not_ok c.in_err-parse-in-Some.field-0.0 n c.parse.result c.in_err-parse-in-Some.was p)
+pub returns-in_ok-number-in-Some-clause-number : goal.returns-in_ok-number-in-Some-clause-number
+returns-in_ok-number-in-Some-clause-number c =
+    number_read _ c.in-Some.word.now _ _ c.in_ok-number-in-Some.field-0 c.in_ok-number-in-Some.ensures.says refl (word_off c.args.words.now c.next.new.self c.in-Some.word c.requires c.in-Some.ensures.steps).1
+
+pub returns-in_err-number-in-Some-clause-text : goal.returns-in_err-number-in-Some-clause-text
+returns-in_err-number-in-Some-clause-text c = (word_off c.args.words.now c.next.new.self c.in-Some.word c.requires c.in-Some.ensures.steps).0
+
+pub returns-in_err-number-in-Some-clause-number : goal.returns-in_err-number-in-Some-clause-number
+returns-in_err-number-in-Some-clause-number c =
+    number_refused _ c.in-Some.word.now _ _ c.in_err-number-in-Some.ensures.none c.from_residual.ensures.0 (word_off c.args.words.now c.next.new.self c.in-Some.word c.requires c.in-Some.ensures.steps).1
