@@ -1,5 +1,4 @@
 pub mod Pieces
 pub mod Words
 pub mod Making
-pub mod Playing
 pub mod Following
