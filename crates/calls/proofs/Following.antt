@@ -8,7 +8,6 @@ use Rattle.lending.specs.History.{Moment, EachCameTo, yielded, merged, recalled,
 use Rattle.lending.proofs.Plays.{worked_list}
 use Rattle.calls.specs.declared.call.Call.{Call}
 use Rattle.calls.specs.declared.list.Tallies.{Tallies}
-use Rattle.calls.specs.Values.{called}
 use Rattle.calls.specs.Listed.{Made, SomeOffice, ListMade}
 use Rattle.calls.specs.Played.{Played, ListPlayed}
 

@@ -3,3 +3,4 @@ pub mod Written
 pub mod Listed
 pub mod Played
 pub mod Quiet
+pub mod Jobs

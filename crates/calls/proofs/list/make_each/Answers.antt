@@ -3,10 +3,9 @@ use Rattle.std.proofs.lemmas.List.{take_more, take_all}
 use Rattle.calls.specs.declared.call.Call.TheVariants.{Open}
 use Rattle.calls.specs.Values.{called, answered}
 use Rattle.calls.specs.Listed.{SomeOffice, TooLarge, counted}
-use Rattle.std.proofs.Common.{true, take}
+use Rattle.std.proofs.Common.{true}
 use Rattle.lending.specs.Perform.{perform}
 use Rattle.lending.specs.Idle.{idle}
-use Rattle.calls.specs.declared.call.Call.{Call}
 use Rattle.calls.proofs.Following.{list_played}
 use Rattle.calls.proofs.Making.{none_made, one_more, few_closed, few_fit}
 use Rattle.calls.proofs.list.make_each.Goals as goal
