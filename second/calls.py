@@ -1,5 +1,5 @@
 #!/usr/bin/env python3
-"""Prints input for `leasing`: offices, and calls and lists of calls to them, most sensible, some wrong, some unreadable.
+"""Prints input for `leasing`: offices, and calls, lists of calls and jobs to them, most sensible, some wrong, some unreadable.
 
     second/calls.py SEED OFFICES LINES   so many offices with about so many lines each, the same for the same seed
     second/calls.py numbers              an office that issues all 60,000 numbers
@@ -33,6 +33,9 @@ UNREADABLE = [
     b'count\x1c', b'count\x1f', b'count\xe2\x80\x8b', b'\xef\xbb\xbfcount', b';', b' ; ', b';;', b'count;', b';count',
     b'count; ;issued', b'count, issued', b'count: issued', b'count. issued', b'count issued', b'count\\; issued',
     b'count\xcd\xbe issued', b'count\xef\xbc\x9b issued', b'count; issued 1', b'count; granted', b'count; \xff',
+    b'job', b'job 1', b'job 1:', b'job: count', b'job one: count', b'job 1 2: count', b'job 65536: count', b'job 1: count;',
+    b'job 1: job 2: count', b'job 1: count: issued', b'job 1; count', b'job1: count', b'Job 1: count', b'1: count', b': count',
+    b'job 1\xef\xbc\x9a count', b'job 1: office trees 4 2 30 1', b':', b'job 1: count; ;issued',
 ]
 
 # What spoils a list: a piece that is no call, even if it is a good line.
@@ -293,6 +296,18 @@ class Caller:
             self.plan.clear()
         return words
 
+    def job(self, many):
+        """A job of about so many calls, made to the caller's own office: mostly for a lease that is out or is yet to come."""
+        roll, issued = self.office.roll(), self.office.ask('issued')
+        lease = self.mostly([lease.number for lease in roll] + [issued + 1, issued + 2], [self.rng.randint(1, issued + 1), *ODD])
+        calls, stopped = [], False
+        while len(calls) < many:
+            calls.append(self.choose())
+            if not stopped:
+                stopped = leasing.answer(self.office, *calls[-1]).startswith('refused')
+        leasing.hand_in(self.office, lease)
+        return lease, calls
+
     def wind_up(self):
         """The calls that close everything: yields from the highest number down, recalls, or slips of all numbers."""
         roll = self.office.roll()
@@ -321,6 +336,13 @@ def written(rng, *calls):
     return ';'.join(oddly(rng, call, blank) for call in calls).encode()
 
 
+def written_job(rng, lease, calls):
+    """A line with this job: now and then with odd blanks, a plus sign or zeros."""
+    blank = rng.choice(BLANKS)
+    slip = 'job %d' % lease if rng.random() < 0.94 else oddly(rng, ['job', lease], blank)
+    return (slip + rng.choice([':', ': ', ' : '])).encode() + written(rng, *calls)
+
+
 def spoiled(rng, caller):
     """A list with a piece that is no call, so that none of its calls is made."""
     pieces = [written(rng, caller.choose()) for _ in range(rng.randint(1, 5))]
@@ -329,12 +351,14 @@ def spoiled(rng, caller):
 
 
 def some_line(rng, caller):
-    """A call or, at times, a list of calls or something unreadable."""
-    way, = rng.choices(['call', 'list', 'spoiled list', 'unreadable line'], [82, 12, 3, 3])
+    """A call or, at times, a list of calls, a job or something unreadable."""
+    way, = rng.choices(['call', 'list', 'job', 'spoiled list', 'unreadable line'], [76, 12, 6, 3, 3])
     if way == 'unreadable line':
         return rng.choice(UNREADABLE)
     if way == 'spoiled list':
         return spoiled(rng, caller)
+    if way == 'job':
+        return written_job(rng, *caller.job(rng.choice([1, 2, 3, 4, 8])))
     many = rng.choice([2, 2, 3, 4, 6, 12, 30]) if way == 'list' else 1
     return written(rng, *(caller.call() for _ in range(many)))
 

@@ -377,6 +377,16 @@ def read_calls(text):
     return None if None in calls else calls
 
 
+def read_job(text):
+    """The lease of a job and its calls; or None."""
+    before, colon, after = text.partition(':')
+    words, calls = WORD.findall(before), read_calls(after)
+    if not colon or len(words) != 2 or words[0] != 'job' or calls is None:
+        return None
+    lease = read_number(words[1])
+    return None if lease is None else (lease, calls)
+
+
 def answer(office, call, *numbers):
     """What is answered to a call, in words."""
     try:
@@ -392,15 +402,39 @@ def answer(office, call, *numbers):
     return 'granted' if result is None else 'granted, lease %d' % result
 
 
+def in_words(closed):
+    """What some calls closed, in words."""
+    return 'closed: ' + ', '.join('%d %s' % (number, how) for how, number in closed.items())
+
+
+def count_closed(office, closed, call):
+    """Makes a call, counts what it closed, and gives back its answer; a refused call closes nothing."""
+    before = office.ask('count')
+    words = answer(office, *call)
+    if call[0] in CLOSED_BY:
+        closed[CLOSED_BY[call[0]]] += before - office.ask('count')
+    return words
+
+
 def answer_list(office, calls):
-    """What the calls of a list closed, in words; a refused call closes nothing."""
+    """What the calls of a list closed, in words."""
     closed = dict.fromkeys(CLOSED_BY.values(), 0)
     for call in calls:
-        before = office.ask('count')
-        answer(office, *call)
-        if call[0] in CLOSED_BY:
-            closed[CLOSED_BY[call[0]]] += before - office.ask('count')
-    return 'closed: ' + ', '.join('%d %s' % (number, how) for how, number in closed.items())
+        count_closed(office, closed, call)
+    return in_words(closed)
+
+
+def answer_job(office, lease, calls):
+    """What became of a job, in words, a line each: its calls up to a refused one, and then its slip."""
+    closed = dict.fromkeys(CLOSED_BY.values(), 0)
+    made, refusal = 0, []
+    while made < len(calls) and not refusal:
+        words = count_closed(office, closed, calls[made])
+        made += 1
+        if words.startswith('refused'):
+            refusal = [words]
+    handed_in = 'slip of lease %d handed in, %d closed' % (lease, hand_in(office, lease))
+    return ['%d of %d calls made' % (made, len(calls)), *refusal, in_words(closed), handed_in]
 
 
 def print_roll(office):
@@ -416,12 +450,25 @@ def answer_office(name, rows, quota, term, chain):
     return set_up(name, rows, quota, term, chain)
 
 
+def written(calls):
+    """Calls as they are printed."""
+    return '; '.join(' '.join(map(str, call)) for call in calls)
+
+
 def answer_calls(office, calls):
     """Prints the answer to a call or to a list of calls, with the roll but for a single question."""
-    print('; '.join(' '.join(map(str, call)) for call in calls))
+    print(written(calls))
     print('  ' + (answer_list(office, calls) if len(calls) > 1 else answer(office, *calls[0])))
     if len(calls) > 1 or calls[0][0] in CHANGES:
         print_roll(office)
+
+
+def print_job(office, lease, calls):
+    """Does a job, and prints what became of it, and the roll."""
+    print('job %d: %s' % (lease, written(calls)))
+    for words in answer_job(office, lease, calls):
+        print('  ' + words)
+    print_roll(office)
 
 
 def answer_line(office, line):
@@ -430,11 +477,13 @@ def answer_line(office, line):
         text = line.decode('utf-8')
     except UnicodeDecodeError:
         text = ''
-    words, calls = read_office(text), read_calls(text)
+    words, calls, job = read_office(text), read_calls(text), read_job(text)
     if words is not None:
         return answer_office(*words[1:])
-    if calls is None or office is None:
+    if office is None or calls is None and job is None:
         print(EXPECTED)
+    elif job is not None:
+        print_job(office, *job)
     else:
         answer_calls(office, calls)
     return office

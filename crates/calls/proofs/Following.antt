@@ -8,20 +8,19 @@ use Rattle.lending.specs.History.{Moment, EachCameTo, yielded, merged, recalled,
 use Rattle.lending.proofs.Plays.{worked_list}
 use Rattle.calls.specs.declared.call.Call.{Call}
 use Rattle.calls.specs.declared.list.Tallies.{Tallies}
-use Rattle.calls.specs.Values.{called}
-use Rattle.calls.specs.Listed.{Made, Stands}
-use Rattle.calls.specs.Played.{Played}
+use Rattle.calls.specs.Listed.{Made, SomeOffice, ListMade}
+use Rattle.calls.specs.Played.{Played, ListPlayed}
 
 module _ {O S : Type 0} (K : Kind S) (means : O → State S) (layers : O → Layers S) (ls : Layers S) (follow : (o : O) → Follow (layers o) (means o)) where
   -- a state that an office with these layers stands for follows from them
-  follows : (s : State S) → Stands means layers ls s → Follow ls s
+  follows : (s : State S) → SomeOffice means layers ls s → Follow ls s
   follows s h = subst (λ (x : State S). Follow ls x) h.1 (subst (λ (l : Layers S). Follow l (means h.0)) h.2 (follow h.0))
 
-  each_follows : (ms : List (Moment S)) → EachCameTo (Stands means layers ls) ms → EachCameTo (Follow ls) ms
+  each_follows : (ms : List (Moment S)) → EachCameTo (SomeOffice means layers ls) ms → EachCameTo (Follow ls) ms
   each_follows [] each = tt
   each_follows (m ∷ ms) each = (follows m.before each.0, each_follows ms each.1)
 
-  pub made_is_played : (s : State S) (calls : List Call) (tallies : Tallies) (t : State S) → Follow ls t → Made K (Stands means layers ls) s calls tallies t → Played K ls s calls tallies t
+  pub made_is_played : (s : State S) (calls : List Call) (tallies : Tallies) (t : State S) → Follow ls t → Made K (SomeOffice means layers ls) s calls tallies t → Played K ls s calls tallies t
   made_is_played s calls tallies t f made =
       let e = worked_list ls K s made.history t made.leads (each_follows made.history made.stood) f ∙ ap (play K ls s) made.in_order in
       let ms = ap (λ (x : List (Moment S) × State S). x.0) e in
@@ -32,3 +31,7 @@ module _ {O S : Type 0} (K : Kind S) (means : O → State S) (layers : O → Lay
         recalls = made.recalls ∙ ap recalled ms;
         lapses = made.lapses ∙ ap lapsed ms;
       }
+
+module _ {O S : Type 0} (K : Kind S) (means : O → State S) (layers : O → Layers S) where
+  pub list_played : (before after : O) (calls : List Call) (tallies : Tallies) → ListMade K means layers before calls tallies after → layers after ≡ layers before → ListPlayed K means layers before calls tallies after
+  list_played before after calls tallies made same follow = made_is_played K means layers (layers before) follow (means before) calls tallies (means after) (subst (λ (l : Layers S). Follow l (means after)) same (follow after)) made

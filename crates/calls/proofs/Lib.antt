@@ -3,5 +3,5 @@ pub mod Numbers
 pub mod Said
 pub mod Written
 pub mod Making
-pub mod Playing
 pub mod Following
+pub mod Jobs

@@ -24,7 +24,7 @@ few_fit (Some after) t m few = ap Some m
 
 module _ {S : Type 0} (K : Kind S) (Of : State S → Type 0) where
   -- before the first call
-  pub none_made : LendingConserved K → (s : State S) (tallies : Tallies) → all_closed tallies ≡ 0 → Made K Of s [] tallies s
+  abbrev pub none_made : LendingConserved K → (s : State S) (tallies : Tallies) → all_closed tallies ≡ 0 → Made K Of s [] tallies s
   none_made always s tallies none = record {
     history = [];
     in_order = refl;
@@ -39,7 +39,7 @@ module _ {S : Type 0} (K : Kind S) (Of : State S → Type 0) where
   }
 
   -- one call more
-  pub one_more : LendingConserved K → (s t u : State S) (calls : List Call) (call : Call) (a : office.Answer S) (tallies : Tallies) → Made K Of s calls tallies t → Does K t (called call) a u → Of t → Made K Of s (calls ++ (call ∷ [])) (counted tallies (called call) a) u
+  abbrev pub one_more : LendingConserved K → (s t u : State S) (calls : List Call) (call : Call) (a : office.Answer S) (tallies : Tallies) → Made K Of s calls tallies t → Does K t (called call) a u → Of t → Made K Of s (calls ++ (call ∷ [])) (counted tallies (called call) a) u
   one_more always s t u calls call a tallies made does here =
       let ms : List (Moment S) = record { before = t; call = called call; answer = a } ∷ made.history in
       let leads : Leads K s ms u = (made.leads, does) in

@@ -4,3 +4,4 @@ pub mod Reading
 pub mod Listed
 pub mod Played
 pub mod Quiet
+pub mod Jobs

@@ -49,6 +49,11 @@ module _ {S : Type 0} where
     -- and of every list of calls to such an office that these calls follow.
     pub conserved : (start : State S) → SetUp start → (earlier : List (Moment S)) → Leads K start earlier s → Conserved K (history ++ earlier) t
 
--- an office with these layers stands for the state
-abbrev pub Stands : {O S : Type 0} → (O → State S) → (O → Layers S) → Layers S → State S → Type 0
-Stands {O} means layers ls s = (o : O) × (means o ≡ s) × (layers o ≡ ls)
+-- some office with these layers stands for the state
+abbrev pub SomeOffice : {O S : Type 0} → (O → State S) → (O → Layers S) → Layers S → State S → Type 0
+SomeOffice {O} means layers ls s = (o : O) × (means o ≡ s) × (layers o ≡ ls)
+
+-- The calls, made in their order, led one office to the other and closed what the tallies say, each in a state that an office
+-- with these layers can have.
+abbrev pub ListMade : {O S : Type 0} → Kind S → (O → State S) → (O → Layers S) → O → List Call → Tallies → O → Type 0
+ListMade K means layers before calls tallies after = Made K (SomeOffice means layers (layers before)) (means before) calls tallies (means after)

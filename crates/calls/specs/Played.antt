@@ -2,7 +2,7 @@
 use Rattle.std.specs.Prelude.{◌≡◌, List, map, reverse}
 use Rattle.shares.specs.Kind.{Kind}
 use Rattle.lending.specs.Office.{State}
-use Rattle.lending.specs.Layers.{Layers}
+use Rattle.lending.specs.Layers.{Layers, Follow}
 use Rattle.lending.specs.Play.{play}
 use Rattle.lending.specs.History.{yielded, merged, recalled, lapsed}
 use Rattle.calls.specs.declared.call.Call.{Call}
@@ -18,3 +18,7 @@ module _ {S : Type 0} (K : Kind S) (layers : Layers S) (s : State S) (calls : Li
     pub merges : tallies.merged ≡ merged (play K layers s (reverse (map called calls))).0
     pub recalls : tallies.recalled ≡ recalled (play K layers s (reverse (map called calls))).0
     pub lapses : tallies.lapsed ≡ lapsed (play K layers s (reverse (map called calls))).0
+
+-- Where the objections of every such office follow from its layers, the calls led one to the other as they are played.
+abbrev pub ListPlayed : {O S : Type 0} → Kind S → (O → State S) → (O → Layers S) → O → List Call → Tallies → O → Type 0
+ListPlayed {O} K means layers before calls tallies after = ((o : O) → Follow (layers o) (means o)) → Played K (layers before) (means before) calls tallies (means after)

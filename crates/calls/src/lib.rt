@@ -3,11 +3,13 @@
 #![tactic(auto)]
 
 mod call;
+mod job;
 mod list;
 mod read;
 mod values;
 
 pub use call::{Answer, Call};
+pub use job::{Job, do_job};
 pub use list::{Tallies, make_all};
 pub use read::NotACall;
 pub use values::make;

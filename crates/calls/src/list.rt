@@ -1,16 +1,16 @@
 // Making a list of calls, and counting what it closes.
 ghost use Rattle.std.specs.Prelude.{◌≡◌, MatchOption};
-ghost use Rattle.lending.specs.Layers.{Follow};
+ghost use Rattle.lending.specs.Choice.{ListsLeaveNoChoice};
 ghost use Rattle.lending.specs.Promise.{LendingConserved};
 ghost use Rattle.office.specs.Lawful.{unused};
 ghost use Rattle.calls.specs.Values.{called, answered};
-ghost use Rattle.calls.specs.Listed.{Made, Stands, TooLarge, counted};
-ghost use Rattle.calls.specs.Played.{Played};
+ghost use Rattle.calls.specs.Listed.{ListMade, TooLarge, counted};
+ghost use Rattle.calls.specs.Played.{ListPlayed};
 ghost use Rattle.calls.specs.Quiet.{AllIdle};
 
 use crate::call::{Answer, Call};
 use crate::values::make;
-use lending::{Refusal, lending_is_conserved};
+use lending::{Refusal, calls_leave_no_choice, lending_is_conserved};
 use office::Office;
 use shares::Share;
 
@@ -56,22 +56,24 @@ impl Tallies {
 
 // Makes some calls, one after another. Answers how many leases they closed.
 pub fn make_all<O: Office>(office: &mut O, calls: &[Call]) -> Tallies
-    ensures made { Made O.Kind.Share.kind (Stands O.Office.meaning O.Office.layers (O.Office.layers office.old)) (O.Office.meaning office.old) calls.now result (O.Office.meaning office.new) }
-    ensures played { ((o : O) → Follow (O.Office.layers o) (O.Office.meaning o)) → Played O.Kind.Share.kind (O.Office.layers office.old) (O.Office.meaning office.old) calls.now result (O.Office.meaning office.new) }
+    ensures made { ListMade O.Kind.Share.kind O.Office.meaning O.Office.layers office.old calls.now result office.new }
+    ensures played { ListPlayed O.Kind.Share.kind O.Office.meaning O.Office.layers office.old calls.now result office.new }
+    ensures one_result { ListsLeaveNoChoice O.Kind.Share.kind }
     ensures idle { AllIdle O.Kind.Share.kind (O.Office.meaning office.old) calls.now → office.new ≡ office.old }
     ensures unused { unused (O.Office.rows office.new) ≡ unused (O.Office.rows office.old) }
     ensures layers { O.Office.layers office.new ≡ O.Office.layers office.old }
     ensures lent { O.Office.lent office.new ≡ O.Office.lent office.old }
     ensures always { LendingConserved O.Kind.Share.kind }
 {
+    calls_leave_no_choice::<O::Kind>();
     make_each(office, calls)
 }
 
 // The calls made from the first on. The loop is by itself so that a wrong call of it is refused where it stands, and not in
 // the proof of the loop.
 fn make_each<O: Office>(office: &mut O, calls: &[Call]) -> Tallies
-    ensures made { Made O.Kind.Share.kind (Stands O.Office.meaning O.Office.layers (O.Office.layers office.old)) (O.Office.meaning office.old) calls.now result (O.Office.meaning office.new) }
-    ensures played { ((o : O) → Follow (O.Office.layers o) (O.Office.meaning o)) → Played O.Kind.Share.kind (O.Office.layers office.old) (O.Office.meaning office.old) calls.now result (O.Office.meaning office.new) }
+    ensures made { ListMade O.Kind.Share.kind O.Office.meaning O.Office.layers office.old calls.now result office.new }
+    ensures played { ListPlayed O.Kind.Share.kind O.Office.meaning O.Office.layers office.old calls.now result office.new }
     ensures idle { AllIdle O.Kind.Share.kind (O.Office.meaning office.old) calls.now → office.new ≡ office.old }
     ensures unused { unused (O.Office.rows office.new) ≡ unused (O.Office.rows office.old) }
     ensures layers { O.Office.layers office.new ≡ O.Office.layers office.old }

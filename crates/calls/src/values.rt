@@ -1,5 +1,6 @@
 ghost use Rattle.std.specs.Prelude.{◌≡◌, true, false, is_ok};
 ghost use Rattle.lending.specs.Perform.{perform, Does};
+ghost use Rattle.lending.specs.Choice.{CallsLeaveNoChoice};
 ghost use Rattle.lending.specs.Idle.{idle};
 ghost use Rattle.lending.specs.Promise.{LendingConserved, CallConserves};
 ghost use Rattle.lending.specs.Told.{told_number};
@@ -11,13 +12,14 @@ use desk::{
     Slip, assign, count, delegate, issued, lease, lease_at, merge, open, recall, set_day, standing,
     today, yield_lease,
 };
-use lending::{Refusal, lending_is_conserved};
+use lending::{Refusal, calls_leave_no_choice, lending_is_conserved};
 use office::Office;
 use shares::Share;
 
 // Makes a call that is given as a value.
 pub fn make<O: Office>(office: &mut O, call: Call) -> Result<Answer<O::Kind>, Refusal>
     ensures does { Does O.Kind.Share.kind (O.Office.meaning office.old) (called call) (answered result) (O.Office.meaning office.new) }
+    ensures one_result { CallsLeaveNoChoice O.Kind.Share.kind }
     ensures same { is_ok result ≡ false → office.new ≡ office.old }
     ensures idle { idle (perform O.Kind.Share.kind (O.Office.meaning office.old) (called call)) ≡ true → office.new ≡ office.old }
     ensures unused { unused (O.Office.rows office.new) ≡ unused (O.Office.rows office.old) }
@@ -27,6 +29,7 @@ pub fn make<O: Office>(office: &mut O, call: Call) -> Result<Answer<O::Kind>, Re
     ensures always { LendingConserved O.Kind.Share.kind }
 {
     lending_is_conserved::<O::Kind>();
+    calls_leave_no_choice::<O::Kind>();
     ask(office, call)
 }
 

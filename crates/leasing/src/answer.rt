@@ -1,7 +1,7 @@
 // Making calls, and printing what comes of them.
 use crate::read::{Line, SetUp, Unreadable};
-use crate::show::{print_answer, print_calls, print_roll};
-use calls::{Call, Tallies, make, make_all};
+use crate::show::{print_answer, print_calls, print_refusal, print_roll, print_tallies};
+use calls::{Call, Job, do_job, make, make_all};
 use chain::Chain;
 use ledger::Ledger;
 use lending::Lease;
@@ -43,6 +43,7 @@ fn serve_over<S: Shown, O: Office<Kind = S> + Drop>(
         match line {
             Line::Call(call) => answer(rt, &mut pile, *call)?,
             Line::List(calls) => answer_list(rt, &mut pile, calls)?,
+            Line::Job { lease, calls } => answer_job(rt, &mut pile, *lease, calls)?,
             // no office stands here: each begins a part of the lines
             Line::Office(_) | Line::Unreadable => println!(rt; "{Unreadable}")?,
         }
@@ -76,14 +77,32 @@ fn answer_list<S: Shown, O: Office<Kind = S>>(
     calls: &[Call],
 ) -> anyhow::Result<()> {
     print_calls(rt, calls)?;
-    let Tallies {
-        yielded,
-        merged,
-        recalled,
-        lapsed,
-    } = make_all(office, calls);
-    println!(rt;
-        "  closed: {yielded} yielded, {merged} merged, {recalled} recalled, {lapsed} lapsed"
-    )?;
+    print_tallies(rt, make_all(office, calls))?;
+    print_roll(rt, office)
+}
+
+// Does a job, and prints it, how many of its calls were made, the refusal that stopped it, what the calls and the hand-in
+// closed, and the roll after them.
+fn answer_job<S: Printed, O: Office<Kind = S>>(
+    rt: &HostRuntime,
+    office: &mut O,
+    lease: u16,
+    calls: &[Call],
+) -> anyhow::Result<()> {
+    print!(rt; "job {lease}: ")?;
+    print_calls(rt, calls)?;
+    let Job {
+        made,
+        refusal,
+        tallies,
+        closed,
+    } = do_job(office, lease, calls);
+    let all = calls.len();
+    println!(rt; "  {made} of {all} calls made")?;
+    if let Some(refusal) = refusal {
+        print_refusal(rt, refusal)?;
+    }
+    print_tallies(rt, tallies)?;
+    println!(rt; "  slip of lease {lease} handed in, {closed} closed")?;
     print_roll(rt, office)
 }

@@ -42,13 +42,21 @@ pub(crate) enum Line {
     Call(Call),
     // calls to be made one after another
     List(Vec<Call>),
+    // calls to be made until one is refused, beside a slip for a lease
+    Job { lease: u16, calls: Vec<Call> },
     Unreadable,
 }
 
-// Reads a line: calls with semicolons between them are a list.
+// Reads a line: calls with semicolons between them are a list, and behind a colon they are a job's.
 pub(crate) fn read_line(alloc: Global, line: &str) -> Result<Line, AllocError> {
+    if let Some((slip, calls)) = line.split_once(':') {
+        return Ok(match (read_slip(slip), read_calls(alloc, calls)?) {
+            (Ok(lease), Some(calls)) => Line::Job { lease, calls },
+            _ => Line::Unreadable,
+        });
+    }
     if line.contains(';') {
-        return read_list(alloc, line);
+        return Ok(read_calls(alloc, line)?.map_or(Line::Unreadable, Line::List));
     }
     Ok(match line.parse() {
         Ok(call) => Line::Call(call),
@@ -56,16 +64,29 @@ pub(crate) fn read_line(alloc: Global, line: &str) -> Result<Line, AllocError> {
     })
 }
 
-// Reads a list of calls.
-fn read_list(alloc: Global, line: &str) -> Result<Line, AllocError> {
+// Reads calls with semicolons between them, if there is nothing else.
+fn read_calls(alloc: Global, text: &str) -> Result<Option<Vec<Call>>, AllocError> {
     let mut calls = Vec::new(alloc);
-    for call in line.split(';') {
+    for call in text.split(';') {
         match call.parse() {
             Ok(call) => calls.push(call)?,
-            Err(NotACall) => return Ok(Line::Unreadable),
+            Err(NotACall) => return Ok(None),
         }
     }
-    Ok(Line::List(calls))
+    Ok(Some(calls))
+}
+
+// Reads the word job and the lease for which a slip is drawn.
+fn read_slip(text: &str) -> Result<u16, Unreadable> {
+    let mut words = text.split_whitespace();
+    if next(&mut words)? != "job" {
+        return Err(Unreadable);
+    }
+    let lease = next(&mut words)?.parse()?;
+    match words.next() {
+        None => Ok(lease),
+        Some(_) => Err(Unreadable),
+    }
 }
 
 // The error of a line that can't be read. It prints what is expected.

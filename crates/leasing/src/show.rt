@@ -1,5 +1,5 @@
 // Printing answers and the roll.
-use calls::{Answer, Call};
+use calls::{Answer, Call, Tallies};
 use desk::{count, issued, leases, today};
 use lending::{Lease, Refusal};
 use office::Office;
@@ -39,11 +39,30 @@ pub(crate) fn print_answer<S: Shown>(
             let entry = Entry(lease);
             println!(rt; "  {entry}")?;
         }
-        Err(Refusal { reason, level }) => {
-            let number = reason.number();
-            println!(rt; "  refused {number} at level {level}: {reason}")?;
-        }
+        Err(refusal) => print_refusal(rt, refusal)?,
     }
+    Ok(())
+}
+
+// A refusal.
+pub(crate) fn print_refusal(rt: &HostRuntime, refusal: Refusal) -> anyhow::Result<()> {
+    let Refusal { reason, level } = refusal;
+    let number = reason.number();
+    println!(rt; "  refused {number} at level {level}: {reason}")?;
+    Ok(())
+}
+
+// What some calls closed.
+pub(crate) fn print_tallies(rt: &HostRuntime, tallies: Tallies) -> anyhow::Result<()> {
+    let Tallies {
+        yielded,
+        merged,
+        recalled,
+        lapsed,
+    } = tallies;
+    println!(rt;
+        "  closed: {yielded} yielded, {merged} merged, {recalled} recalled, {lapsed} lapsed"
+    )?;
     Ok(())
 }
 

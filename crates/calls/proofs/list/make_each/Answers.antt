@@ -2,20 +2,17 @@ use Rattle.std.proofs.Common.{◌≡◌, arith, refl, sym, subst, get_or, ◌∙
 use Rattle.std.proofs.lemmas.List.{take_more, take_all}
 use Rattle.calls.specs.declared.call.Call.TheVariants.{Open}
 use Rattle.calls.specs.Values.{called, answered}
-use Rattle.calls.specs.Listed.{Stands, TooLarge, counted}
-use Rattle.std.proofs.Common.{true, take}
-use Rattle.lending.specs.Layers.{Layers, Follow}
+use Rattle.calls.specs.Listed.{SomeOffice, TooLarge, counted}
+use Rattle.std.proofs.Common.{true}
 use Rattle.lending.specs.Perform.{perform}
 use Rattle.lending.specs.Idle.{idle}
-use Rattle.calls.specs.declared.call.Call.{Call}
-use Rattle.calls.proofs.Playing.{none_played, one_played}
+use Rattle.calls.proofs.Following.{list_played}
 use Rattle.calls.proofs.Making.{none_made, one_more, few_closed, few_fit}
 use Rattle.calls.proofs.list.make_each.Goals as goal
 
 pub loop-call-init : goal.loop-call-init
 loop-call-init g c = record {
-  made = none_made g.O.Kind.Share.kind (Stands g.O.Office.meaning g.O.Office.layers (g.O.Office.layers c.args.office.now)) c.lending_is_conserved.ensures.always (g.O.Office.meaning c.args.office.now) c.default-tallies.result (omega arith);
-  played = λ follow. none_played g.O.Kind.Share.kind (g.O.Office.layers c.args.office.now) (g.O.Office.meaning c.args.office.now) c.default-tallies.result (omega arith);
+  made = none_made g.O.Kind.Share.kind (SomeOffice g.O.Office.meaning g.O.Office.layers (g.O.Office.layers c.args.office.now)) c.lending_is_conserved.ensures.always (g.O.Office.meaning c.args.office.now) c.default-tallies.result (omega arith);
   idle = λ all. refl;
   unused = refl;
   layers = refl;
@@ -29,8 +26,8 @@ unwrap-tallies-requires g c =
     let u = g.O.Office.meaning c.make-answer.new.office in
     let call = get_or c.args.calls.now c.loop-call.call-index (Open 0 0) in
     let after = counted c.loop-call.tallies (called call) (answered c.make-answer.result) in
-    let made = one_more K (Stands g.O.Office.meaning g.O.Office.layers (g.O.Office.layers c.args.office.now)) c.make-answer.ensures.always s (g.O.Office.meaning c.loop-call.office) u _ call (answered c.make-answer.result) c.loop-call.tallies c.loop-call.invariant.made c.make-answer.ensures.does (c.loop-call.office, refl, c.loop-call.invariant.layers) in
-    let few = few_closed K (Stands g.O.Office.meaning g.O.Office.layers (g.O.Office.layers c.args.office.now)) s u _ _ (g.O.Office.lawful c.args.office.now) (g.O.Office.lawful c.make-answer.new.office) _ _ made in
+    let made = one_more K (SomeOffice g.O.Office.meaning g.O.Office.layers (g.O.Office.layers c.args.office.now)) c.make-answer.ensures.always s (g.O.Office.meaning c.loop-call.office) u _ call (answered c.make-answer.result) c.loop-call.tallies c.loop-call.invariant.made c.make-answer.ensures.does (c.loop-call.office, refl, c.loop-call.invariant.layers) in
+    let few = few_closed K (SomeOffice g.O.Office.meaning g.O.Office.layers (g.O.Office.layers c.args.office.now)) s u _ _ (g.O.Office.lawful c.args.office.now) (g.O.Office.lawful c.make-answer.new.office) _ _ made in
     subst IsSome (sym (few_fit c.counted.result after c.counted.ensures (omega arith))) refl
 
 pub loop-call-preserved : goal.loop-call-preserved
@@ -41,11 +38,9 @@ loop-call-preserved g c =
     let call = get_or c.args.calls.now c.loop-call.call-index (Open 0 0) in
     let after = counted c.loop-call.tallies (called call) (answered c.make-answer.result) in
     let is : c.unwrap-tallies.result ≡ after = subst (λ r. MatchOption r (TooLarge after) (λ x. x ≡ after)) c.unwrap-tallies.ensures c.counted.ensures in
-    let made = one_more K (Stands g.O.Office.meaning g.O.Office.layers (g.O.Office.layers c.args.office.now)) c.make-answer.ensures.always s (g.O.Office.meaning c.loop-call.office) u _ call (answered c.make-answer.result) c.loop-call.tallies c.loop-call.invariant.made c.make-answer.ensures.does (c.loop-call.office, refl, c.loop-call.invariant.layers) in
+    let made = one_more K (SomeOffice g.O.Office.meaning g.O.Office.layers (g.O.Office.layers c.args.office.now)) c.make-answer.ensures.always s (g.O.Office.meaning c.loop-call.office) u _ call (answered c.make-answer.result) c.loop-call.tallies c.loop-call.invariant.made c.make-answer.ensures.does (c.loop-call.office, refl, c.loop-call.invariant.layers) in
     let layers = c.make-answer.ensures.layers ∙ c.loop-call.invariant.layers in
     record {
-      played = λ follow. rw (take_more c.args.calls.now c.loop-call.call-index (Open 0 0) c.loop-call-test.true, is) (one_played K (g.O.Office.layers c.args.office.now) s (g.O.Office.meaning c.loop-call.office) u _ call (answered c.make-answer.result) c.loop-call.tallies
-          (subst (λ (l : Layers g.row.O-Kind.Denot). Follow l u) layers (follow c.make-answer.new.office)) (c.loop-call.invariant.played follow) c.make-answer.ensures.does);
       idle = λ all.
           let stays = c.loop-call.invariant.idle all in
           c.make-answer.ensures.idle (subst (λ (o : g.row.O.Denot). idle (perform K (g.O.Office.meaning o) (called call)) ≡ true) (sym stays) (all c.loop-call.call-index (Open 0 0) c.loop-call-test.true)) ∙ stays;
@@ -56,4 +51,6 @@ loop-call-preserved g c =
     }
 
 pub returns-clause-played : goal.returns-clause-played
-returns-clause-played g c = λ follow. rw (take_all c.loop-call.call-index c.args.calls.now c.loop-call-test.false) at c.loop-call.invariant.played follow
+returns-clause-played g c =
+    list_played g.O.Kind.Share.kind g.O.Office.meaning g.O.Office.layers c.args.office.now c.loop-call.office c.args.calls.now c.loop-call.tallies
+    (rw (take_all c.loop-call.call-index c.args.calls.now c.loop-call-test.false) at c.loop-call.invariant.made) c.loop-call.invariant.layers

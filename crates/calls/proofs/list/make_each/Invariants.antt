@@ -1,16 +1,13 @@
 use Rattle.std.proofs.Common.{◌≡◌, take}
 use Rattle.office.specs.Lawful.{unused}
-use Rattle.lending.specs.Layers.{Follow}
-use Rattle.calls.specs.Listed.{Made, Stands}
-use Rattle.calls.specs.Played.{Played}
+use Rattle.calls.specs.Listed.{ListMade}
 use Rattle.calls.specs.Quiet.{AllIdle}
 use Rattle.calls.proofs.list.make_each.Given as goal
 
 -- the calls so far are made
 abbrev pub invariant-loop-call : goal.invariant-loop-call
 invariant-loop-call g l = record {
-  made : Made g.O.Kind.Share.kind (Stands g.O.Office.meaning g.O.Office.layers (g.O.Office.layers l.fn.office)) (g.O.Office.meaning l.fn.office) (take l.call-index l.calls) l.tallies (g.O.Office.meaning l.office);
-  played : ((o : g.row.O.Denot) → Follow (g.O.Office.layers o) (g.O.Office.meaning o)) → Played g.O.Kind.Share.kind (g.O.Office.layers l.fn.office) (g.O.Office.meaning l.fn.office) (take l.call-index l.calls) l.tallies (g.O.Office.meaning l.office);
+  made : ListMade g.O.Kind.Share.kind g.O.Office.meaning g.O.Office.layers l.fn.office (take l.call-index l.calls) l.tallies l.office;
   idle : AllIdle g.O.Kind.Share.kind (g.O.Office.meaning l.fn.office) l.calls → l.office ≡ l.fn.office;
   unused : unused (g.O.Office.rows l.office) ≡ unused (g.O.Office.rows l.fn.office);
   layers : g.O.Office.layers l.office ≡ g.O.Office.layers l.fn.office;

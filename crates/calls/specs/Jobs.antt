@@ -1,0 +1,78 @@
+-- Jobs: calls that are made until one is refused, and then a slip that is handed in.
+use Rattle.std.specs.Prelude.{◌≡◌, ℕ, ◌+◌, ◌≤◌, Bool, true, false, List, [], ◌∷◌, ◌++◌, length, take, Some, None, Option}
+use Rattle.shares.specs.Kind.{Kind}
+use Rattle.lending.specs.declared.refusal.Refusal as code
+use Rattle.lending.specs.Office.{Refusal, State}
+use Rattle.lending.specs.Layers.{Layers, Follow}
+use Rattle.lending.specs.Outcome as office
+use Rattle.lending.specs.Outcome.Call.{hand_in}
+use Rattle.lending.specs.Outcome.Answer.{done, number, lease, share, refused}
+use Rattle.lending.specs.Perform.{perform, Does}
+use Rattle.lending.specs.Play.{answer_of, state_after}
+use Rattle.lending.specs.History.{Moment}
+use Rattle.lending.specs.Told.{meant}
+use Rattle.calls.specs.declared.call.Call.{Call}
+use Rattle.calls.specs.declared.call.Call.TheVariants.{HandIn}
+use Rattle.calls.specs.declared.list.Tallies.{Tallies}
+use Rattle.calls.specs.declared.job.Job.{Job}
+use Rattle.calls.specs.Values.{called}
+use Rattle.calls.specs.Listed.{ListMade, counted}
+use Rattle.calls.specs.Played.{ListPlayed}
+
+-- a refusal that may be none, as the rules have it
+abbrev pub meant_if_any : Option code.Refusal → Option Refusal
+meant_if_any None = None
+meant_if_any (Some r) = Some (meant r)
+
+module _ {S : Type 0} where
+  -- by the refusal that was answered; otherwise x
+  abbrev pub if_refused : {X : Type 0} → office.Answer S → (Refusal → X) → X → X
+  if_refused done f x = x
+  if_refused (number n) f x = x
+  if_refused (lease l) f x = x
+  if_refused (share s) f x = x
+  if_refused (refused r) f x = f r
+
+  abbrev pub is_refused : office.Answer S → Bool
+  is_refused a = if_refused a (λ r. true) false
+
+  -- none of these calls was refused
+  abbrev pub NoneRefused : List (Moment S) → Type 0
+  NoneRefused [] = Unit {0}
+  NoneRefused (m ∷ ms) = (is_refused m.answer ≡ false) × NoneRefused ms
+
+  -- Of these calls, the last first, none was refused, or the last alone was, with this refusal.
+  abbrev pub EndedBy : Option code.Refusal → List (Moment S) → Type 0
+  EndedBy None ms = NoneRefused ms
+  EndedBy (Some r) [] = ⊥
+  EndedBy (Some r) (m ∷ ms) = (m.answer ≡ refused (meant r)) × NoneRefused ms
+
+  -- a call more that was made, unless the call itself was refused
+  abbrev pub one_or_go_on : office.Answer S → ℕ × Option Refusal → ℕ × Option Refusal
+  one_or_go_on a rest = if_refused a (λ r. (1, Some r)) (rest.0 + 1, rest.1)
+
+  -- how many of some calls are made until one is refused, and its refusal, at an office with these layers that stands for s
+  abbrev pub until_refused : Kind S → Layers S → State S → List Call → ℕ × Option Refusal
+  until_refused K layers s [] = (0, None)
+  until_refused K layers s (c ∷ cs) = let o = perform K s (called c) in one_or_go_on (answer_of o) (until_refused K layers (state_after layers o s) cs)
+
+module _ {O S : Type 0} (K : Kind S) (means : O → State S) (layers : O → Layers S) (before : O) where
+  -- Of some calls the first so many were made, up to the one that was refused, or all: they led to the office after.
+  pub record Until (calls : List Call) (many : ℕ) (refusal : Option code.Refusal) (tallies : Tallies) (after : O) : Type 0 where
+    pub some : many ≤ length calls
+    pub made : ListMade K means layers before (take many calls) tallies after
+    pub ended : EndedBy refusal made.history
+    pub all : refusal ≡ None → many ≡ length calls
+    -- where objections follow from the layers it is worked out how many
+    pub known : ((o : O) → Follow (layers o) (means o)) → (many, meant_if_any refusal) ≡ until_refused K (layers before) (means before) calls
+
+  -- A job did some calls until one was refused, and then handed in a slip for the lease.
+  pub record JobDone (lease : ℕ) (calls : List Call) (job : Job) (after : O) : Type 0 where
+    -- the office between
+    pub between : O
+    pub calls_made : Until calls job.made job.refusal job.tallies between
+    pub handed_in : Does K (means between) (hand_in lease) (number job.closed) (means after)
+    -- all of it is one list of calls
+    pub made : ListMade K means layers before (take job.made calls ++ (HandIn lease ∷ [])) (counted {S = S} job.tallies (hand_in lease) (number job.closed)) after
+    -- where objections follow from the layers, it is played
+    pub played : ListPlayed K means layers before (take job.made calls ++ (HandIn lease ∷ [])) (counted {S = S} job.tallies (hand_in lease) (number job.closed)) after
