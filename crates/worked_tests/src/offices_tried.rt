@@ -1,5 +1,5 @@
 use crate::{free_row, prints};
-use calls::{Call, Tallies, make, make_all};
+use calls::{Call, Tallies, do_job, make, make_all};
 use chain::Chain;
 use desk::{Slip, lease_at, may_write, standing, yield_lease};
 use ledger::Ledger;
@@ -207,4 +207,17 @@ fn rows_come_back_from_under_three_layers(rt: HostRuntime) {
     assert_eq!(rt; back.len(), 8);
     assert_eq!(rt; back[0].number, 1);
     assert_eq!(rt; back[1].lender, 1);
+}
+
+#[test]
+fn a_job_stops_at_a_refusal_and_hands_its_slip_in(rt: HostRuntime) {
+    let mut rows = [free_row(); 8];
+    let mut office = Ledger::new(&mut rows);
+    let _ = make_all(&mut office, &[open(7, 1), delegate(1, 2, 20)]);
+    let calls = [delegate(2, 3, 10), delegate(2, 3, 40), recall(1)];
+    let job = do_job(&mut office, 2, &calls);
+    assert_eq!(rt; job.made, 2);
+    assert_eq!(rt; job.refusal.map(|refusal| refusal.reason.number()), Some(7));
+    assert_eq!(rt; job.tallies, Tallies::default());
+    assert_eq!(rt; job.closed, 2);
 }
