@@ -1,0 +1,21 @@
+-- An open, a recall and a list of calls, one after another.
+use Rattle.std.proofs.Common.{◌≡◌, ℕ, List, Result}
+use Rattle.shares.specs.Kind.{Kind}
+use Rattle.lending.specs.declared.refusal.Refusal.{Refusal}
+use Rattle.lending.specs.Office.{State}
+use Rattle.lending.specs.Outcome.Call.{open_resource, recall}
+use Rattle.lending.specs.Perform.{Does}
+use Rattle.lending.specs.Told.{told_number}
+use Rattle.calls.specs.declared.call.Call.{Call}
+use Rattle.calls.specs.declared.list.Tallies.{Tallies}
+use Rattle.calls.specs.Listed.{Made}
+use Rattle.fickle.specs.Works.{Worked}
+
+pub worked : {S : Type 0} (K : Kind S) (Of : State S → Type 0) (s u v t : State S) (resource holder lease : ℕ) (calls : List Call) (opened recalled : Result ℕ Refusal) (closed : Tallies) → Does K s (open_resource resource holder) (told_number opened) u → Does K u (recall lease) (told_number recalled) v → Made K Of v calls closed t → Worked K Of s resource holder lease calls (record { opened = opened; recalled = recalled; closed = closed }) t
+worked K Of s u v t resource holder lease calls opened recalled closed opens recalls makes = record {
+  after_open = u;
+  after_recall = v;
+  opens = opens;
+  recalls = recalls;
+  makes = makes;
+}
