@@ -12,7 +12,7 @@ use Rattle.lending.specs.Outcome.Answer.{done, number}
 use Rattle.lending.specs.Outcome.Call.{open_resource, delegate, yield, merge, assign, new_day}
 use Rattle.lending.specs.Perform.{perform, Ends, Does}
 use Rattle.lending.specs.Idle.{idle}
-use Rattle.lending.specs.Layers.{Own, Passes, layered, passed_up}
+use Rattle.lending.specs.Layers.{Passes, layered, passed_up}
 use Rattle.lending.specs.Told.{raised, told, told_number}
 use Rattle.lending.proofs.Idling.{idle_open, idle_delegate, idle_yield, idle_merge, idle_assign, idle_day}
 use Rattle.lending.proofs.Layering.{layer_is_office}

@@ -1,5 +1,5 @@
 -- What an open, a recall and a list of calls come to.
-use Rattle.std.specs.Prelude.{◌≡◌, ℕ, List}
+use Rattle.std.specs.Prelude.{ℕ, List}
 use Rattle.shares.specs.Kind.{Kind}
 use Rattle.lending.specs.Office.{State}
 use Rattle.lending.specs.Outcome.Call.{open_resource, recall}

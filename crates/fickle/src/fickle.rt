@@ -1,9 +1,11 @@
 ghost use Rattle.std.specs.Prelude.{◌≡◌, false, is_ok, MatchResult};
-ghost use Rattle.lending.specs.Layers.{layered};
 ghost use Rattle.lending.specs.Office.{SetUp};
 ghost use Rattle.lending.specs.Office.Request.{opening};
-ghost use Rattle.lending.specs.Told.{number_of};
-ghost use Rattle.fickle.specs.Fickles.{shut, flip};
+ghost use Rattle.lending.specs.Outcome.Call.{open_resource, delegate, yield, merge, assign, new_day};
+ghost use Rattle.lending.specs.Perform.{Does};
+ghost use Rattle.lending.specs.Told.{number_of, told, told_number};
+ghost use Rattle.office.specs.Lawful.{unused};
+ghost use Rattle.fickle.specs.Fickles.{shut, flip, stands};
 
 use lending::{Lease, Reason, Refusal};
 use office::Office;
@@ -19,7 +21,7 @@ pub struct Fickle<O> {
 impl<O: Office> Fickle<O> {
     // The fickle office over another. It begins by letting opens through.
     pub fn over(below: O) -> Fickle<O>
-        ensures stands { ⟦<Fickle<O> as Office>⟧.meaning result ≡ layered (shut false) (O.Office.meaning below) }
+        ensures stands { ⟦<Fickle<O> as Office>⟧.meaning result ≡ stands false (O.Office.meaning below) }
         ensures set_up { SetUp (O.Office.meaning below) → SetUp (⟦<Fickle<O> as Office>⟧.meaning result) }
         ensures rows { ⟦<Fickle<O> as Office>⟧.rows result ≡ O.Office.rows below }
         ensures lent { ⟦<Fickle<O> as Office>⟧.lent result ≡ O.Office.lent below }
@@ -58,7 +60,7 @@ impl<O: Office> Office for Fickle<O> {
 
     type Kind = O::Kind;
 
-    ghost meaning = { λ fickle. layered (shut fickle.closed) (O.Office.meaning fickle.below) };
+    ghost meaning = { λ fickle. stands fickle.closed (O.Office.meaning fickle.below) };
 
     ghost rows = { λ fickle. O.Office.rows fickle.below };
 
@@ -89,7 +91,14 @@ impl<O: Office> Office for Fickle<O> {
     }
 
     #[tactic(auto, using(crate::proofs::Turning::opened))]
-    fn open(&mut self, resource: u16, holder: u16) -> Result<u16, Refusal> {
+    fn open(&mut self, resource: u16, holder: u16) -> Result<u16, Refusal>
+        ensures does { Does O.Kind.Share.kind (stands self.old.closed (O.Office.meaning self.old.below)) (open_resource resource holder) (told_number result) (stands self.new.closed (O.Office.meaning self.new.below)) }
+        ensures turns { self.new.closed ≡ flip (is_ok result) self.old.closed }
+        ensures same { is_ok result ≡ false → self.new ≡ self.old }
+        ensures unused { unused (O.Office.rows self.new.below) ≡ unused (O.Office.rows self.old.below) }
+        ensures layers { O.Office.layers self.new.below ≡ O.Office.layers self.old.below }
+        ensures lent { O.Office.lent self.new.below ≡ O.Office.lent self.old.below }
+    {
         self.allow(resource, holder)?;
         let answer = self.below.open(resource, holder).map_err(Refusal::raised);
         self.turn(answer.is_ok());
@@ -97,7 +106,14 @@ impl<O: Office> Office for Fickle<O> {
     }
 
     #[tactic(auto, using(crate::proofs::Turning::delegated))]
-    fn delegate(&mut self, lender: u16, holder: u16, due: u16) -> Result<u16, Refusal> {
+    fn delegate(&mut self, lender: u16, holder: u16, due: u16) -> Result<u16, Refusal>
+        ensures does { Does O.Kind.Share.kind (stands self.old.closed (O.Office.meaning self.old.below)) (delegate lender holder due) (told_number result) (stands self.new.closed (O.Office.meaning self.new.below)) }
+        ensures turns { self.new.closed ≡ flip (is_ok result) self.old.closed }
+        ensures same { is_ok result ≡ false → self.new ≡ self.old }
+        ensures unused { unused (O.Office.rows self.new.below) ≡ unused (O.Office.rows self.old.below) }
+        ensures layers { O.Office.layers self.new.below ≡ O.Office.layers self.old.below }
+        ensures lent { O.Office.lent self.new.below ≡ O.Office.lent self.old.below }
+    {
         let answer = self
             .below
             .delegate(lender, holder, due)
@@ -107,28 +123,56 @@ impl<O: Office> Office for Fickle<O> {
     }
 
     #[tactic(auto, using(crate::proofs::Turning::yielded))]
-    fn yield_lease(&mut self, lease: u16) -> Result<(), Refusal> {
+    fn yield_lease(&mut self, lease: u16) -> Result<(), Refusal>
+        ensures does { Does O.Kind.Share.kind (stands self.old.closed (O.Office.meaning self.old.below)) (yield lease) (told result) (stands self.new.closed (O.Office.meaning self.new.below)) }
+        ensures turns { self.new.closed ≡ flip (is_ok result) self.old.closed }
+        ensures same { is_ok result ≡ false → self.new ≡ self.old }
+        ensures unused { unused (O.Office.rows self.new.below) ≡ unused (O.Office.rows self.old.below) }
+        ensures layers { O.Office.layers self.new.below ≡ O.Office.layers self.old.below }
+        ensures lent { O.Office.lent self.new.below ≡ O.Office.lent self.old.below }
+    {
         let answer = self.below.yield_lease(lease).map_err(Refusal::raised);
         self.turn(answer.is_ok());
         answer
     }
 
     #[tactic(auto, using(crate::proofs::Turning::merged))]
-    fn merge(&mut self, a: u16, b: u16) -> Result<(), Refusal> {
+    fn merge(&mut self, a: u16, b: u16) -> Result<(), Refusal>
+        ensures does { Does O.Kind.Share.kind (stands self.old.closed (O.Office.meaning self.old.below)) (merge a b) (told result) (stands self.new.closed (O.Office.meaning self.new.below)) }
+        ensures turns { self.new.closed ≡ flip (is_ok result) self.old.closed }
+        ensures same { is_ok result ≡ false → self.new ≡ self.old }
+        ensures unused { unused (O.Office.rows self.new.below) ≡ unused (O.Office.rows self.old.below) }
+        ensures layers { O.Office.layers self.new.below ≡ O.Office.layers self.old.below }
+        ensures lent { O.Office.lent self.new.below ≡ O.Office.lent self.old.below }
+    {
         let answer = self.below.merge(a, b).map_err(Refusal::raised);
         self.turn(answer.is_ok());
         answer
     }
 
     #[tactic(auto, using(crate::proofs::Turning::assigned))]
-    fn assign(&mut self, lease: u16, holder: u16) -> Result<(), Refusal> {
+    fn assign(&mut self, lease: u16, holder: u16) -> Result<(), Refusal>
+        ensures does { Does O.Kind.Share.kind (stands self.old.closed (O.Office.meaning self.old.below)) (assign lease holder) (told result) (stands self.new.closed (O.Office.meaning self.new.below)) }
+        ensures turns { self.new.closed ≡ flip (is_ok result) self.old.closed }
+        ensures same { is_ok result ≡ false → self.new ≡ self.old }
+        ensures unused { unused (O.Office.rows self.new.below) ≡ unused (O.Office.rows self.old.below) }
+        ensures layers { O.Office.layers self.new.below ≡ O.Office.layers self.old.below }
+        ensures lent { O.Office.lent self.new.below ≡ O.Office.lent self.old.below }
+    {
         let answer = self.below.assign(lease, holder).map_err(Refusal::raised);
         self.turn(answer.is_ok());
         answer
     }
 
     #[tactic(auto, using(crate::proofs::Turning::day_set))]
-    fn set_day(&mut self, day: u16) -> Result<(), Refusal> {
+    fn set_day(&mut self, day: u16) -> Result<(), Refusal>
+        ensures does { Does O.Kind.Share.kind (stands self.old.closed (O.Office.meaning self.old.below)) (new_day day) (told result) (stands self.new.closed (O.Office.meaning self.new.below)) }
+        ensures turns { self.new.closed ≡ flip (is_ok result) self.old.closed }
+        ensures same { is_ok result ≡ false → self.new ≡ self.old }
+        ensures unused { unused (O.Office.rows self.new.below) ≡ unused (O.Office.rows self.old.below) }
+        ensures layers { O.Office.layers self.new.below ≡ O.Office.layers self.old.below }
+        ensures lent { O.Office.lent self.new.below ≡ O.Office.lent self.old.below }
+    {
         let answer = self.below.set_day(day).map_err(Refusal::raised);
         self.turn(answer.is_ok());
         answer

@@ -2,11 +2,10 @@
 ghost use Rattle.std.specs.Prelude.{◌≡◌, false, min, length, []};
 ghost use Rattle.lending.specs.Limits.{most_rows};
 ghost use Rattle.lending.specs.Office.{State, new_ledger};
-ghost use Rattle.lending.specs.Layers.{layered};
 ghost use Rattle.lending.specs.Promise.{LendingConserved};
 ghost use Rattle.office.specs.Lawful.{unused};
 ghost use Rattle.calls.specs.Listed.{Stands};
-ghost use Rattle.fickle.specs.Fickles.{shut};
+ghost use Rattle.fickle.specs.Fickles.{stands};
 ghost use Rattle.fickle.specs.Works.{Worked};
 
 use crate::fickle::Fickle;
@@ -58,7 +57,21 @@ pub fn work_fickle<'a, S: Share>(
     lease: u16,
     calls: &[Call],
 ) -> Answers
-    ensures worked { (t : State S) × Worked S.kind (Stands ⟦<Fickle<Ledger<'a, S>> as Office>⟧.meaning ⟦<Fickle<Ledger<'a, S>> as Office>⟧.layers []) (layered (shut false) (new_ledger (min most_rows (length rows.old)))) resource holder lease calls.now result t }
+    ensures worked { (t : State S) × Worked S.kind (Stands ⟦<Fickle<Ledger<'a, S>> as Office>⟧.meaning ⟦<Fickle<Ledger<'a, S>> as Office>⟧.layers []) (stands false (new_ledger (min most_rows (length rows.old)))) resource holder lease calls.now result t }
+    ensures always { LendingConserved S.kind }
+{
+    work_at_new(rows, resource, holder, lease, calls)
+}
+
+// Sets that office up. It is by itself since its proof is written by hand, and would be the first to refuse a wrong number.
+fn work_at_new<'a, S: Share>(
+    rows: &'a mut [Lease<S>],
+    resource: u16,
+    holder: u16,
+    lease: u16,
+    calls: &[Call],
+) -> Answers
+    ensures worked { (t : State S) × Worked S.kind (Stands ⟦<Fickle<Ledger<'a, S>> as Office>⟧.meaning ⟦<Fickle<Ledger<'a, S>> as Office>⟧.layers []) (stands false (new_ledger (min most_rows (length rows.old)))) resource holder lease calls.now result t }
     ensures always { LendingConserved S.kind }
 {
     let mut office = Fickle::over(Ledger::new(rows));
