@@ -1,0 +1,3 @@
+pub mod Fickles
+pub mod Lawful
+pub mod Works

@@ -1,0 +1,180 @@
+ghost use Rattle.std.specs.Prelude.{◌≡◌, false, is_ok, MatchResult};
+ghost use Rattle.lending.specs.Office.{SetUp};
+ghost use Rattle.lending.specs.Office.Request.{opening};
+ghost use Rattle.lending.specs.Outcome.Call.{open_resource, delegate, yield, merge, assign, new_day};
+ghost use Rattle.lending.specs.Perform.{Does};
+ghost use Rattle.lending.specs.Told.{number_of, told, told_number};
+ghost use Rattle.office.specs.Lawful.{unused};
+ghost use Rattle.fickle.specs.Fickles.{shut, flip, stands};
+
+use lending::{Lease, Reason, Refusal};
+use office::Office;
+
+// An office over another, with an objection of its own that no roll and no day tells: each granted call closes it to opens, or
+// lets them through again.
+#[derive(Drop)]
+pub struct Fickle<O> {
+    below: O,
+    closed: bool,
+}
+
+impl<O: Office> Fickle<O> {
+    // The fickle office over another. It begins by letting opens through.
+    pub fn over(below: O) -> Fickle<O>
+        ensures stands { ⟦<Fickle<O> as Office>⟧.meaning result ≡ stands false (O.Office.meaning below) }
+        ensures set_up { SetUp (O.Office.meaning below) → SetUp (⟦<Fickle<O> as Office>⟧.meaning result) }
+        ensures rows { ⟦<Fickle<O> as Office>⟧.rows result ≡ O.Office.rows below }
+        ensures lent { ⟦<Fickle<O> as Office>⟧.lent result ≡ O.Office.lent below }
+        ensures layers { ⟦<Fickle<O> as Office>⟧.layers result ≡ O.Office.layers below }
+    {
+        Fickle {
+            below,
+            closed: false,
+        }
+    }
+
+    // Refuses an open while it is closed.
+    fn allow(&self, resource: u16, holder: u16) -> Result<(), Refusal>
+        ensures { let s = O.Office.meaning self.now.below in let mine = shut self.now.closed s.core.roll s.core.today (opening resource holder) in MatchResult result (λ x. mine ≡ None) (λ refusal. (mine ≡ Some (number_of refusal.reason)) × (refusal.level ≡ 0)) }
+    {
+        if self.closed {
+            return Err(Reason::OverQuota.into());
+        }
+        Ok(())
+    }
+
+    // Flips after a granted call.
+    fn turn(&mut self, granted: bool)
+        ensures below { self.new.below ≡ self.old.below }
+        ensures turns { self.new.closed ≡ flip granted self.old.closed }
+        ensures same { granted ≡ false → self.new ≡ self.old }
+    {
+        if granted {
+            self.closed = !self.closed;
+        }
+    }
+}
+
+impl<O: Office> Office for Fickle<O> {
+    ghost use Rattle.fickle.specs.Lawful.{fickle_lawful};
+
+    type Kind = O::Kind;
+
+    ghost meaning = { λ fickle. stands fickle.closed (O.Office.meaning fickle.below) };
+
+    ghost rows = { λ fickle. O.Office.rows fickle.below };
+
+    ghost lent = { λ fickle. O.Office.lent fickle.below };
+
+    ghost layers = { λ fickle. O.Office.layers fickle.below };
+
+    ghost lawful = { fickle_lawful O.Office.meaning O.Office.rows O.Office.lawful };
+
+    fn count(&self) -> usize {
+        self.below.count()
+    }
+
+    fn issued(&self) -> u16 {
+        self.below.issued()
+    }
+
+    fn today(&self) -> u16 {
+        self.below.today()
+    }
+
+    fn lease_at(&self, position: usize) -> Result<Lease<O::Kind>, Refusal> {
+        self.below.lease_at(position).map_err(Refusal::raised)
+    }
+
+    fn lease(&self, lease: u16) -> Result<Lease<O::Kind>, Refusal> {
+        self.below.lease(lease).map_err(Refusal::raised)
+    }
+
+    #[tactic(auto, using(crate::proofs::Turning::opened))]
+    fn open(&mut self, resource: u16, holder: u16) -> Result<u16, Refusal>
+        ensures does { Does O.Kind.Share.kind (stands self.old.closed (O.Office.meaning self.old.below)) (open_resource resource holder) (told_number result) (stands self.new.closed (O.Office.meaning self.new.below)) }
+        ensures turns { self.new.closed ≡ flip (is_ok result) self.old.closed }
+        ensures same { is_ok result ≡ false → self.new ≡ self.old }
+        ensures unused { unused (O.Office.rows self.new.below) ≡ unused (O.Office.rows self.old.below) }
+        ensures layers { O.Office.layers self.new.below ≡ O.Office.layers self.old.below }
+        ensures lent { O.Office.lent self.new.below ≡ O.Office.lent self.old.below }
+    {
+        self.allow(resource, holder)?;
+        let answer = self.below.open(resource, holder).map_err(Refusal::raised);
+        self.turn(answer.is_ok());
+        answer
+    }
+
+    #[tactic(auto, using(crate::proofs::Turning::delegated))]
+    fn delegate(&mut self, lender: u16, holder: u16, due: u16) -> Result<u16, Refusal>
+        ensures does { Does O.Kind.Share.kind (stands self.old.closed (O.Office.meaning self.old.below)) (delegate lender holder due) (told_number result) (stands self.new.closed (O.Office.meaning self.new.below)) }
+        ensures turns { self.new.closed ≡ flip (is_ok result) self.old.closed }
+        ensures same { is_ok result ≡ false → self.new ≡ self.old }
+        ensures unused { unused (O.Office.rows self.new.below) ≡ unused (O.Office.rows self.old.below) }
+        ensures layers { O.Office.layers self.new.below ≡ O.Office.layers self.old.below }
+        ensures lent { O.Office.lent self.new.below ≡ O.Office.lent self.old.below }
+    {
+        let answer = self
+            .below
+            .delegate(lender, holder, due)
+            .map_err(Refusal::raised);
+        self.turn(answer.is_ok());
+        answer
+    }
+
+    #[tactic(auto, using(crate::proofs::Turning::yielded))]
+    fn yield_lease(&mut self, lease: u16) -> Result<(), Refusal>
+        ensures does { Does O.Kind.Share.kind (stands self.old.closed (O.Office.meaning self.old.below)) (yield lease) (told result) (stands self.new.closed (O.Office.meaning self.new.below)) }
+        ensures turns { self.new.closed ≡ flip (is_ok result) self.old.closed }
+        ensures same { is_ok result ≡ false → self.new ≡ self.old }
+        ensures unused { unused (O.Office.rows self.new.below) ≡ unused (O.Office.rows self.old.below) }
+        ensures layers { O.Office.layers self.new.below ≡ O.Office.layers self.old.below }
+        ensures lent { O.Office.lent self.new.below ≡ O.Office.lent self.old.below }
+    {
+        let answer = self.below.yield_lease(lease).map_err(Refusal::raised);
+        self.turn(answer.is_ok());
+        answer
+    }
+
+    #[tactic(auto, using(crate::proofs::Turning::merged))]
+    fn merge(&mut self, a: u16, b: u16) -> Result<(), Refusal>
+        ensures does { Does O.Kind.Share.kind (stands self.old.closed (O.Office.meaning self.old.below)) (merge a b) (told result) (stands self.new.closed (O.Office.meaning self.new.below)) }
+        ensures turns { self.new.closed ≡ flip (is_ok result) self.old.closed }
+        ensures same { is_ok result ≡ false → self.new ≡ self.old }
+        ensures unused { unused (O.Office.rows self.new.below) ≡ unused (O.Office.rows self.old.below) }
+        ensures layers { O.Office.layers self.new.below ≡ O.Office.layers self.old.below }
+        ensures lent { O.Office.lent self.new.below ≡ O.Office.lent self.old.below }
+    {
+        let answer = self.below.merge(a, b).map_err(Refusal::raised);
+        self.turn(answer.is_ok());
+        answer
+    }
+
+    #[tactic(auto, using(crate::proofs::Turning::assigned))]
+    fn assign(&mut self, lease: u16, holder: u16) -> Result<(), Refusal>
+        ensures does { Does O.Kind.Share.kind (stands self.old.closed (O.Office.meaning self.old.below)) (assign lease holder) (told result) (stands self.new.closed (O.Office.meaning self.new.below)) }
+        ensures turns { self.new.closed ≡ flip (is_ok result) self.old.closed }
+        ensures same { is_ok result ≡ false → self.new ≡ self.old }
+        ensures unused { unused (O.Office.rows self.new.below) ≡ unused (O.Office.rows self.old.below) }
+        ensures layers { O.Office.layers self.new.below ≡ O.Office.layers self.old.below }
+        ensures lent { O.Office.lent self.new.below ≡ O.Office.lent self.old.below }
+    {
+        let answer = self.below.assign(lease, holder).map_err(Refusal::raised);
+        self.turn(answer.is_ok());
+        answer
+    }
+
+    #[tactic(auto, using(crate::proofs::Turning::day_set))]
+    fn set_day(&mut self, day: u16) -> Result<(), Refusal>
+        ensures does { Does O.Kind.Share.kind (stands self.old.closed (O.Office.meaning self.old.below)) (new_day day) (told result) (stands self.new.closed (O.Office.meaning self.new.below)) }
+        ensures turns { self.new.closed ≡ flip (is_ok result) self.old.closed }
+        ensures same { is_ok result ≡ false → self.new ≡ self.old }
+        ensures unused { unused (O.Office.rows self.new.below) ≡ unused (O.Office.rows self.old.below) }
+        ensures layers { O.Office.layers self.new.below ≡ O.Office.layers self.old.below }
+        ensures lent { O.Office.lent self.new.below ≡ O.Office.lent self.old.below }
+    {
+        let answer = self.below.set_day(day).map_err(Refusal::raised);
+        self.turn(answer.is_ok());
+        answer
+    }
+}

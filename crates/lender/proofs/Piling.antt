@@ -1,0 +1,41 @@
+-- Three layers over an office, and calls made through them.
+use Rattle.std.proofs.Common.{◌≡◌, ℕ, List, ◌∷◌, ap, ap₂, sym, subst, ◌∙◌, refl, map, reverse}
+use Rattle.shares.specs.Kind.{Kind}
+use Rattle.lending.specs.declared.lease.Lease.{Lease}
+use Rattle.lending.specs.Office.{State}
+use Rattle.lending.specs.Layers.{Own, Layers, layered}
+use Rattle.lending.specs.Promise.{Conserved, LendingConserved}
+use Rattle.lending.proofs.Plays.{plays_are_histories_lem}
+use Rattle.calls.specs.declared.call.Call.{Call}
+use Rattle.calls.specs.declared.list.Tallies.{Tallies}
+use Rattle.calls.specs.Values.{called}
+use Rattle.calls.specs.Played.{Played}
+use Rattle.lender.specs.Lent.{layers, new_office, made, made_over}
+
+module _ {S : Type 0} where
+  pub three_layers : (quota term chain : Own S) (a b c below : Layers S) → c ≡ chain ∷ below → b ≡ term ∷ c → a ≡ quota ∷ b → a ≡ quota ∷ term ∷ chain ∷ below
+  three_layers quota term chain a b c below e f g = g ∙ ap (λ (ls : Layers S). quota ∷ ls) (f ∙ ap (λ (ls : Layers S). term ∷ ls) e)
+
+  pub three_stand : (quota term chain : Own S) (a b c s : State S) → c ≡ layered chain s → b ≡ layered term c → a ≡ layered quota b → a ≡ layered quota (layered term (layered chain s))
+  three_stand quota term chain a b c s e f g = g ∙ ap (layered quota) (f ∙ ap (layered term) e)
+
+  module _ (K : Kind S) where
+    pub played_there : (ls others : Layers S) (s v t : State S) (calls : List Call) (tallies : Tallies) → ls ≡ others → s ≡ v → Played K ls s calls tallies t → Played K others v calls tallies (made_over K others v calls).1
+    played_there ls others s v t calls tallies e f p = subst (λ (l : Layers S). Played K l v calls tallies (made_over K l v calls).1) e (subst (λ (x : State S). Played K ls x calls tallies (made_over K ls x calls).1) f
+        record {
+          leaves = refl;
+          yields = p.yields;
+          merges = p.merges;
+          recalls = p.recalls;
+          lapses = p.lapses;
+        })
+
+    pub roll_there : (ls others : Layers S) (s v t : State S) (calls : List Call) (tallies : Tallies) → ls ≡ others → s ≡ v → Played K ls s calls tallies t → t.core.roll ≡ (made_over K others v calls).1.core.roll
+    roll_there ls others s v t calls tallies e f p = ap (λ (x : State S). x.core.roll) (p.leaves ∙ ap₂ (λ (l : Layers S) (x : State S). (made_over K l x calls).1) e f)
+
+    pub made_conserved : LendingConserved K → (quota term chain rows : ℕ) (calls : List Call) → Conserved K (made K quota term chain rows calls).0 (made K quota term chain rows calls).1
+    made_conserved always quota term chain rows calls =
+        let ls = layers quota term chain in
+        let s = new_office quota term chain rows in
+        let cs = reverse (map called calls) in
+        always s (made K quota term chain rows calls).1 (record { no_leases = refl; none_issued = refl; first_day = refl }) (made K quota term chain rows calls).0 (plays_are_histories_lem K ls s cs)

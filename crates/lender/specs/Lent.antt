@@ -1,0 +1,31 @@
+-- What calls to a new office over lent rows come to.
+use Rattle.std.specs.Prelude.{ℕ, min, List, [], ◌∷◌, map, reverse}
+use Rattle.shares.specs.Kind.{Kind}
+use Rattle.lending.specs.Limits.{most_rows}
+use Rattle.lending.specs.Office.{State, new_ledger}
+use Rattle.lending.specs.Layers.{Layers, pile}
+use Rattle.lending.specs.History.{Moment}
+use Rattle.lending.specs.Play.{play}
+use Rattle.quota.specs.Means.{quota_objects}
+use Rattle.term.specs.Means.{term_objects}
+use Rattle.chain.specs.Means.{chain_objects}
+use Rattle.calls.specs.declared.call.Call.{Call}
+use Rattle.calls.specs.Values.{called}
+
+module _ {S : Type 0} where
+  -- the three layers with their numbers, the outermost first
+  abbrev pub layers : (quota term chain : ℕ) → Layers S
+  layers quota term chain = quota_objects quota ∷ term_objects term ∷ chain_objects chain ∷ []
+
+  -- what a new office with them over so many rows stands for
+  abbrev pub new_office : (quota term chain rows : ℕ) → State S
+  new_office quota term chain rows = pile (layers quota term chain) (new_ledger (min most_rows rows))
+
+  -- a list of calls made in its order at an office with these layers: each with its answer, the last one first, and what the
+  -- office comes to
+  abbrev pub made_over : Kind S → Layers S → State S → List Call → List (Moment S) × State S
+  made_over K layers s calls = play K layers s (reverse (map called calls))
+
+  -- the same at that new office
+  abbrev pub made : Kind S → (quota term chain rows : ℕ) → List Call → List (Moment S) × State S
+  made K quota term chain rows calls = made_over K (layers quota term chain) (new_office quota term chain rows) calls

@@ -1,0 +1,90 @@
+ghost use Rattle.std.specs.Prelude.{◌≡◌, ◌++◌, length, take};
+ghost use Rattle.lending.specs.Layers.{pile};
+ghost use Rattle.lending.specs.Promise.{Conserved, LendingConserved};
+ghost use Rattle.office.specs.Lawful.{unused};
+ghost use Rattle.calls.specs.Played.{Played};
+ghost use Rattle.lender.specs.Lent.{layers, new_office, made, made_over};
+
+use calls::{Call, Tallies, make_all};
+use chain::Chain;
+use layer::Layer;
+use ledger::Ledger;
+use lending::{Lease, lending_is_conserved};
+use office::{Office, Piled};
+use quota::Quota;
+use shares::Share;
+use term::Term;
+
+// Lends rows to a new office, Quota on Term on Chain on a ledger, makes a list of calls to it, and ends it. Answers how many
+// leases the calls closed. The roll then stands in the first of the rows.
+pub fn lend_rows<S: Share>(
+    rows: &mut [Lease<S>],
+    quota: u16,
+    term: u16,
+    chain: u16,
+    calls: &[Call],
+) -> Tallies
+    ensures played { Played S.kind (layers quota term chain) (new_office quota term chain (length rows.old)) calls.now result (made S.kind quota term chain (length rows.old) calls.now).1 }
+    ensures roll { let t = (made S.kind quota term chain (length rows.old) calls.now).1 in take (length t.core.roll) rows.new ≡ t.core.roll }
+    ensures unused { unused rows.new ≡ unused rows.old }
+    ensures length { length rows.new ≡ length rows.old }
+    ensures conserved { let p = made S.kind quota term chain (length rows.old) calls.now in Conserved S.kind p.0 p.1 }
+    ensures always { LendingConserved S.kind }
+{
+    lending_is_conserved::<S>();
+    let (tallies, _) = make_in(rows, quota, term, chain, calls);
+    tallies
+}
+
+// The calls made to a new office in these rows. Gives the very rows back, beside the tallies.
+fn make_in<'a, S: Share>(
+    rows: &'a mut [Lease<S>],
+    quota: u16,
+    term: u16,
+    chain: u16,
+    calls: &[Call],
+) -> (Tallies, &'a mut [Lease<S>])
+    ensures played { Played S.kind (layers quota term chain) (new_office quota term chain (length rows.old)) calls.now result.0 (made S.kind quota term chain (length rows.old) calls.now).1 }
+    ensures roll { let t = (made S.kind quota term chain (length rows.old) calls.now).1 in take (length t.core.roll) result.1.now ≡ t.core.roll }
+    ensures unused { unused result.1.now ≡ unused rows.old }
+    ensures lent { result.1.ghost_name ≡ rows.entry.ghost_name }
+{
+    let (tallies, ledger) = make_over(Ledger::new(rows), quota, term, chain, calls);
+    (tallies, ledger.into_rows())
+}
+
+// The calls made through the three layers over an office. Gives that office back, beside the tallies.
+fn make_over<O: Piled>(below: O, quota: u16, term: u16, chain: u16, calls: &[Call]) -> (Tallies, O)
+    ensures played { let ls = layers quota term chain in Played O.Kind.Share.kind (ls ++ O.Office.layers below) (pile ls (O.Office.meaning below)) calls.now result.0 (made_over O.Kind.Share.kind (ls ++ O.Office.layers below) (pile ls (O.Office.meaning below)) calls.now).1 }
+    ensures roll { let ls = layers quota term chain in (O.Office.meaning result.1).core.roll ≡ (made_over O.Kind.Share.kind (ls ++ O.Office.layers below) (pile ls (O.Office.meaning below)) calls.now).1.core.roll }
+    ensures unused { unused (O.Office.rows result.1) ≡ unused (O.Office.rows below) }
+    ensures lent { O.Office.lent result.1 ≡ O.Office.lent below }
+{
+    let mut office = pile_over(below, quota, term, chain);
+    let tallies = make_piled(&mut office, calls);
+    (tallies, office.into_below().into_below().into_below())
+}
+
+// The three layers over an office, with their numbers.
+fn pile_over<O: Office>(
+    below: O,
+    quota: u16,
+    term: u16,
+    chain: u16,
+) -> Layer<Layer<Layer<O, Chain>, Term>, Quota>
+    ensures stands { ⟦<Layer<Layer<Layer<O, Chain>, Term>, Quota> as Office>⟧.meaning result ≡ pile (layers quota term chain) (O.Office.meaning below) }
+    ensures layers { ⟦<Layer<Layer<Layer<O, Chain>, Term>, Quota> as Office>⟧.layers result ≡ layers quota term chain ++ O.Office.layers below }
+    ensures rows { ⟦<Layer<Layer<Layer<O, Chain>, Term>, Quota> as Office>⟧.rows result ≡ O.Office.rows below }
+    ensures lent { ⟦<Layer<Layer<Layer<O, Chain>, Term>, Quota> as Office>⟧.lent result ≡ O.Office.lent below }
+{
+    Quota::over(Term::over(Chain::over(below, chain), term), quota)
+}
+
+// Makes the calls at an office whose objections follow from its layers, so that what they come to is worked out.
+fn make_piled<O: Piled>(office: &mut O, calls: &[Call]) -> Tallies
+    ensures played { Played O.Kind.Share.kind (O.Office.layers office.old) (O.Office.meaning office.old) calls.now result (O.Office.meaning office.new) }
+    ensures unused { unused (O.Office.rows office.new) ≡ unused (O.Office.rows office.old) }
+    ensures lent { O.Office.lent office.new ≡ O.Office.lent office.old }
+{
+    make_all(office, calls)
+}
