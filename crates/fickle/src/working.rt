@@ -4,7 +4,7 @@ ghost use Rattle.lending.specs.Limits.{most_rows};
 ghost use Rattle.lending.specs.Office.{State, new_ledger};
 ghost use Rattle.lending.specs.Promise.{LendingConserved};
 ghost use Rattle.office.specs.Lawful.{unused};
-ghost use Rattle.calls.specs.Listed.{Stands};
+ghost use Rattle.calls.specs.Listed.{SomeOffice};
 ghost use Rattle.fickle.specs.Fickles.{stands};
 ghost use Rattle.fickle.specs.Works.{Worked};
 
@@ -33,7 +33,7 @@ pub fn work<O: Office>(
     lease: u16,
     calls: &[Call],
 ) -> Answers
-    ensures worked { Worked O.Kind.Share.kind (Stands O.Office.meaning O.Office.layers (O.Office.layers office.old)) (O.Office.meaning office.old) resource holder lease calls.now result (O.Office.meaning office.new) }
+    ensures worked { Worked O.Kind.Share.kind (SomeOffice O.Office.meaning O.Office.layers (O.Office.layers office.old)) (O.Office.meaning office.old) resource holder lease calls.now result (O.Office.meaning office.new) }
     ensures unused { unused (O.Office.rows office.new) ≡ unused (O.Office.rows office.old) }
     ensures layers { O.Office.layers office.new ≡ O.Office.layers office.old }
     ensures lent { O.Office.lent office.new ≡ O.Office.lent office.old }
@@ -57,7 +57,7 @@ pub fn work_fickle<'a, S: Share>(
     lease: u16,
     calls: &[Call],
 ) -> Answers
-    ensures worked { (t : State S) × Worked S.kind (Stands ⟦<Fickle<Ledger<'a, S>> as Office>⟧.meaning ⟦<Fickle<Ledger<'a, S>> as Office>⟧.layers []) (stands false (new_ledger (min most_rows (length rows.old)))) resource holder lease calls.now result t }
+    ensures worked { (t : State S) × Worked S.kind (SomeOffice ⟦<Fickle<Ledger<'a, S>> as Office>⟧.meaning ⟦<Fickle<Ledger<'a, S>> as Office>⟧.layers []) (stands false (new_ledger (min most_rows (length rows.old)))) resource holder lease calls.now result t }
     ensures always { LendingConserved S.kind }
 {
     work_at_new(rows, resource, holder, lease, calls)
@@ -71,7 +71,7 @@ fn work_at_new<'a, S: Share>(
     lease: u16,
     calls: &[Call],
 ) -> Answers
-    ensures worked { (t : State S) × Worked S.kind (Stands ⟦<Fickle<Ledger<'a, S>> as Office>⟧.meaning ⟦<Fickle<Ledger<'a, S>> as Office>⟧.layers []) (stands false (new_ledger (min most_rows (length rows.old)))) resource holder lease calls.now result t }
+    ensures worked { (t : State S) × Worked S.kind (SomeOffice ⟦<Fickle<Ledger<'a, S>> as Office>⟧.meaning ⟦<Fickle<Ledger<'a, S>> as Office>⟧.layers []) (stands false (new_ledger (min most_rows (length rows.old)))) resource holder lease calls.now result t }
     ensures always { LendingConserved S.kind }
 {
     let mut office = Fickle::over(Ledger::new(rows));

@@ -12,7 +12,7 @@ pub use join::join_or_keep;
 pub use lease::Lease;
 pub use limits::{HIGHEST_NAME, LAST_DAY, MOST_NUMBERS, MOST_ROWS, NEVER_DUE};
 pub use promise::{
-    calls_are_exact, calls_leave_no_choice, layer_is_an_office, lending_is_conserved, numbers_tell_reasons_apart,
-    plays_are_histories,
+    calls_are_exact, calls_leave_no_choice, layer_is_an_office, lending_is_conserved,
+    numbers_tell_reasons_apart, plays_are_histories,
 };
 pub use refusal::{Reason, Refusal};

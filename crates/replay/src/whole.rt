@@ -3,7 +3,7 @@ ghost use Rattle.lending.specs.Layers.{Follow};
 ghost use Rattle.lending.specs.Promise.{LendingConserved};
 ghost use Rattle.office.specs.Lawful.{unused};
 ghost use Rattle.book.specs.Books.{opening, count_in};
-ghost use Rattle.calls.specs.Listed.{Stands};
+ghost use Rattle.calls.specs.Listed.{SomeOffice};
 ghost use Rattle.replay.specs.Told.{told_of};
 ghost use Rattle.replay.specs.Whole.{Replay, RunConserved, Opens, unopened};
 ghost use Rattle.replay.specs.Came.{Replayed, OneReplay};
@@ -25,9 +25,9 @@ pub fn replay<O: Office>(
     faults: &mut Vec<Fault>,
 ) -> Result<Result<Finished, Fault>, AllocError>
     ensures opens { IfOk result (λ outcome. told_of outcome ≡ unopened (opening book.now)) }
-    ensures replays { IfOk result (λ outcome. IfOk outcome (λ finished. Replayed O.Kind.Share.kind (Stands O.Office.meaning O.Office.layers (O.Office.layers office.old)) book.now (O.Office.meaning office.old) (count_in book.now) (drop (vec_len faults.old) faults.new.items) finished.closed (O.Office.meaning office.new))) }
+    ensures replays { IfOk result (λ outcome. IfOk outcome (λ finished. Replayed O.Kind.Share.kind (SomeOffice O.Office.meaning O.Office.layers (O.Office.layers office.old)) book.now (O.Office.meaning office.old) (count_in book.now) (drop (vec_len faults.old) faults.new.items) finished.closed (O.Office.meaning office.new))) }
     ensures runs { ((o : O) → Follow (O.Office.layers o) (O.Office.meaning o)) → IfOk result (λ outcome. IfOk outcome (λ finished. Replay O.Kind.Share.kind (O.Office.layers office.old) book.now (O.Office.meaning office.old) (count_in book.now) (drop (vec_len faults.old) faults.new.items) finished.closed (O.Office.meaning office.new))) }
-    ensures once { ((o : O) → Follow (O.Office.layers o) (O.Office.meaning o)) → OneReplay O.Kind.Share.kind (Stands O.Office.meaning O.Office.layers (O.Office.layers office.old)) book.now (O.Office.meaning office.old) (count_in book.now) }
+    ensures once { ((o : O) → Follow (O.Office.layers o) (O.Office.meaning o)) → OneReplay O.Kind.Share.kind (SomeOffice O.Office.meaning O.Office.layers (O.Office.layers office.old)) book.now (O.Office.meaning office.old) (count_in book.now) }
     ensures conserved { RunConserved O.Kind.Share.kind (O.Office.layers office.old) book.now (O.Office.meaning office.old) (count_in book.now) }
     ensures kept { take (vec_len faults.old) faults.new.items ≡ faults.old.items }
     ensures same { IfOk result (λ outcome. OnErr outcome ((office.new ≡ office.old) × (faults.new ≡ faults.old))) }
@@ -75,7 +75,7 @@ fn read_events<O: Office>(
     requires opens { Opens (opening book.now) events }
     requires counted { events ≡ count_in book.now }
     requires room { vec_len faults.old + events ≤ vec_capacity faults.old }
-    ensures replays { Replayed O.Kind.Share.kind (Stands O.Office.meaning O.Office.layers (O.Office.layers office.old)) book.now (O.Office.meaning office.old) events (drop (vec_len faults.old) faults.new.items) result.tallies (O.Office.meaning office.new) }
+    ensures replays { Replayed O.Kind.Share.kind (SomeOffice O.Office.meaning O.Office.layers (O.Office.layers office.old)) book.now (O.Office.meaning office.old) events (drop (vec_len faults.old) faults.new.items) result.tallies (O.Office.meaning office.new) }
     ensures kept { take (vec_len faults.old) faults.new.items ≡ faults.old.items }
     ensures done { result.done ≡ events }
     ensures idle { AllQuiet O.Kind.Share.kind (O.Office.meaning office.old) book.now events → office.new ≡ office.old }

@@ -1,6 +1,6 @@
 use Rattle.std.proofs.Common.{◌≡◌, ◌++◌, ◌∙◌, true, [], ◌∷◌, map, take, drop, ap, refl, sym, subst, arith, vec_len}
 use Rattle.std.proofs.lemmas.List.{take_all, drop_all, take-append-le, drop-append-le}
-use Rattle.calls.specs.Listed.{Stands}
+use Rattle.calls.specs.Listed.{SomeOffice}
 use Rattle.replay.specs.Told.{told, told_of}
 use Rattle.replay.specs.Events.{next}
 use Rattle.replay.specs.Whole.{listed}
@@ -11,7 +11,7 @@ use Rattle.replay.proofs.whole.read_events.Goals.{in-Err, in_default}
 
 pub loop-event-init : goal.loop-event-init
 loop-event-init g c = record {
-  so_far = rw (drop_all (vec_len c.args.faults.now) c.args.faults.now.items (omega arith)) (none_read g.O.Kind.Share.kind (Stands g.O.Office.meaning g.O.Office.layers (g.O.Office.layers c.args.office.now)) c.lending_is_conserved.ensures.always c.args.book.now (g.O.Office.meaning c.args.office.now) c.new-session.result.tallies c.new-session.ensures.counted);
+  so_far = rw (drop_all (vec_len c.args.faults.now) c.args.faults.now.items (omega arith)) (none_read g.O.Kind.Share.kind (SomeOffice g.O.Office.meaning g.O.Office.layers (g.O.Office.layers c.args.office.now)) c.lending_is_conserved.ensures.always c.args.book.now (g.O.Office.meaning c.args.office.now) c.new-session.result.tallies c.new-session.ensures.counted);
   kept = take_all (vec_len c.args.faults.now) c.args.faults.now.items (omega arith);
   done = c.new-session.ensures.begins;
   grows = omega arith;
@@ -34,7 +34,7 @@ loop-event-preserved g c =
           rw w.faults-is (one_fault (drop old c.loop-event.faults.items) (drop old w.push.new.self.items) c.step.result w.in-Err.fault more w.in-Err.is)
       | in_default w ↦ rw w.faults-is (no_fault (drop old c.loop-event.faults.items) c.step.result w.in_default.not-Err)
     ] in
-    let more = one_more g.O.Kind.Share.kind (Stands g.O.Office.meaning g.O.Office.layers (g.O.Office.layers c.args.office.now)) c.lending_is_conserved.ensures.always c.args.book.now (g.O.Office.meaning c.args.office.now) (g.O.Office.meaning c.loop-event.office) (g.O.Office.meaning c.step.new.office) c.args.events c.loop-event._event (drop old c.loop-event.faults.items) (drop old c.match-step.faults.items) c.loop-event.session c.step.new.self c.step.result c.requires.opens (let n = c.requires.counted in omega arith) inv.so_far inv.done (c.loop-event.office, refl, inv.layers) c.step.ensures.steps grows in
+    let more = one_more g.O.Kind.Share.kind (SomeOffice g.O.Office.meaning g.O.Office.layers (g.O.Office.layers c.args.office.now)) c.lending_is_conserved.ensures.always c.args.book.now (g.O.Office.meaning c.args.office.now) (g.O.Office.meaning c.loop-event.office) (g.O.Office.meaning c.step.new.office) c.args.events c.loop-event._event (drop old c.loop-event.faults.items) (drop old c.match-step.faults.items) c.loop-event.session c.step.new.self c.step.result c.requires.opens (let n = c.requires.counted in omega arith) inv.so_far inv.done (c.loop-event.office, refl, inv.layers) c.step.ensures.steps grows in
     record {
       so_far = more.0;
       kept = elim c.match-step.branch [

@@ -1,6 +1,6 @@
 use Rattle.std.proofs.Common.{◌≡◌, ◌+◌, ◌≤◌, take, drop, vec_len, vec_capacity}
 use Rattle.office.specs.Lawful.{unused}
-use Rattle.calls.specs.Listed.{Stands}
+use Rattle.calls.specs.Listed.{SomeOffice}
 use Rattle.replay.specs.Came.{Replayed}
 use Rattle.replay.specs.Quiet.{AllQuiet}
 use Rattle.replay.proofs.whole.read_events.Given as goal
@@ -8,7 +8,7 @@ use Rattle.replay.proofs.whole.read_events.Given as goal
 -- the events so far are stepped
 abbrev pub invariant-loop-event : goal.invariant-loop-event
 invariant-loop-event g l = record {
-  so_far : Replayed g.O.Kind.Share.kind (Stands g.O.Office.meaning g.O.Office.layers (g.O.Office.layers l.fn.office)) l.book (g.O.Office.meaning l.fn.office) l._event (drop (vec_len l.fn.faults) l.faults.items) l.session.tallies (g.O.Office.meaning l.office);
+  so_far : Replayed g.O.Kind.Share.kind (SomeOffice g.O.Office.meaning g.O.Office.layers (g.O.Office.layers l.fn.office)) l.book (g.O.Office.meaning l.fn.office) l._event (drop (vec_len l.fn.faults) l.faults.items) l.session.tallies (g.O.Office.meaning l.office);
   kept : take (vec_len l.fn.faults) l.faults.items ≡ l.fn.faults.items;
   done : l.session.done ≡ l._event;
   grows : vec_len l.fn.faults ≤ vec_len l.faults;
