@@ -1,7 +1,6 @@
 -- Three layers over an office, and calls made through them.
-use Rattle.std.proofs.Common.{◌≡◌, ℕ, List, ◌∷◌, ap, ap₂, sym, subst, ◌∙◌, refl, map, reverse}
+use Rattle.std.proofs.Common.{◌≡◌, ℕ, List, ◌∷◌, ap, ap₂, subst, ◌∙◌, refl, map, reverse}
 use Rattle.shares.specs.Kind.{Kind}
-use Rattle.lending.specs.declared.lease.Lease.{Lease}
 use Rattle.lending.specs.Office.{State}
 use Rattle.lending.specs.Layers.{Own, Layers, layered}
 use Rattle.lending.specs.Promise.{Conserved, LendingConserved}

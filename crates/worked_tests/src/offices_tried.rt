@@ -2,7 +2,9 @@ use crate::{free_row, prints};
 use calls::{Call, Tallies, do_job, make, make_all};
 use chain::Chain;
 use desk::{Slip, lease_at, may_write, standing, yield_lease};
+use fickle::{Answers, Fickle, work, work_fickle};
 use ledger::Ledger;
+use lender::lend_rows;
 use lending::Refusal;
 use office::Office;
 use quota::Quota;
@@ -220,4 +222,66 @@ fn a_job_stops_at_a_refusal_and_hands_its_slip_in(rt: HostRuntime) {
     assert_eq!(rt; job.refusal.map(|refusal| refusal.reason.number()), Some(7));
     assert_eq!(rt; job.tallies, Tallies::default());
     assert_eq!(rt; job.closed, 2);
+}
+
+#[test]
+fn objections_may_flip_at_each_granted_call(rt: HostRuntime) {
+    let mut rows = [free_row(); 8];
+    let mut office = Fickle::over(Ledger::new(&mut rows));
+    assert_eq!(rt; desk::open(&mut office, 1, 1), Ok(1));
+    assert_eq!(rt; refusal(desk::open(&mut office, 2, 1)), Some((21, 0)));
+    assert_eq!(rt; refusal(yield_lease(&mut office, 9)), Some((6, 1)));
+    assert_eq!(rt; refusal(desk::open(&mut office, 2, 1)), Some((21, 0)));
+    assert_eq!(rt; desk::delegate(&mut office, 1, 2, 20), Ok(2));
+    assert_eq!(rt; desk::open(&mut office, 2, 1), Ok(3));
+    assert_eq!(rt; desk::recall(&mut office, 1), Ok(2));
+    let calls = [
+        open(4, 1),
+        recall(3),
+        open(5, 1),
+        open(6, 1),
+        delegate(4, 2, 20),
+        open(6, 1),
+    ];
+    assert_eq!(rt; make_all(&mut office, &calls).recalled, 1);
+    assert!(rt; stands(&office, 0, 4, b"(10)"));
+    assert!(rt; stands(&office, 1, 5, b"(01)"));
+    assert!(rt; stands(&office, 2, 6, b"1"));
+    assert_eq!(rt; desk::count(&office), 3);
+}
+
+#[test]
+fn a_fickle_office_is_put_to_work_as_any_other(rt: HostRuntime) {
+    let mut rows = [free_row(); 8];
+    let calls = [open(4, 1), open(5, 1), recall(2)];
+    let answers = work_fickle(&mut rows, 7, 1, 1, &calls);
+    assert_eq!(rt; answers.opened, Ok(1));
+    assert_eq!(rt; answers.recalled, Ok(1));
+    assert_eq!(rt; answers.closed.recalled, 1);
+    let mut ledger = Ledger::new(&mut rows);
+    assert_eq!(rt; work(&mut ledger, 7, 1, 1, &calls), answers);
+}
+
+#[test]
+fn a_lender_finds_the_roll_in_its_rows(rt: HostRuntime) {
+    let mut rows = [free_row(); 8];
+    let calls = [
+        open(7, 1),
+        delegate(1, 2, 20),
+        delegate(1, 3, 40),
+        delegate(2, 3, 10),
+        open(8, 2),
+        open(9, 2),
+        open(9, 4),
+        recall(2),
+    ];
+    let closed = lend_rows(&mut rows, 2, 30, 1, &calls);
+    assert_eq!(rt; closed.recalled, 1);
+    assert_eq!(rt; rows[0].number, 1);
+    assert_eq!(rt; rows[0].resource, 7);
+    assert!(rt; prints(rows[0].share, b"1"));
+    assert_eq!(rt; rows[1].number, 3);
+    assert_eq!(rt; rows[1].resource, 8);
+    assert_eq!(rt; rows[2].number, 4);
+    assert_eq!(rt; rows[2].holder, 4);
 }

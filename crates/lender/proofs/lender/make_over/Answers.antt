@@ -1,4 +1,4 @@
-use Rattle.std.proofs.Common.{◌≡◌, ap, sym, ◌∙◌}
+use Rattle.std.proofs.Common.{ap, sym, ◌∙◌}
 use Rattle.lending.specs.Office.{State}
 use Rattle.lender.proofs.Piling.{played_there, roll_there}
 use Rattle.lender.proofs.lender.make_over.Goals as goal
