@@ -1,5 +1,5 @@
 -- Events stepped one after another; and where objections follow from layers, what they come to is what is worked out.
-use Rattle.std.proofs.Common.{◌≡◌, ℕ, zero, suc, ◌+◌, ◌<◌, Bool, List, [], ◌∷◌, ◌++◌, map, length, take, drop, Some, None, Ok, Err, Result, refl, sym, ap, ap₂, ◌∙◌, subst, arith, append-nil}
+use Rattle.std.proofs.Common.{◌≡◌, ℕ, zero, suc, ◌+◌, ◌<◌, Bool, List, [], ◌∷◌, ◌++◌, map, length, take, drop, Some, None, Ok, Err, Result, IfOk, refl, sym, ap, ap₂, ◌∙◌, subst, arith, append-nil}
 use Rattle.std.specs.Prelude.{if◌then◌else◌, ◌*◌, slice_index}
 use Rattle.std.proofs.lemmas.Bool.{lt-ltb}
 use Rattle.std.proofs.lemmas.List.{map-append}
@@ -204,3 +204,9 @@ one_fault faults more r fault pushed is = ap (map told) pushed ∙ map-append to
 pub no_fault : (faults : List Fault) (r : Result (Unit {0}) Fault) → ((fault : Fault) → r ≡ Err fault → ⊥) → map told faults ≡ map told faults ++ listed (told_of r)
 no_fault faults (Ok x) none = sym (append-nil (map told faults))
 no_fault faults (Err fault) none = absurd (none fault refl)
+
+-- what holds of an answer within an answer
+pub both_ok : {A E F : Type 0} (r : Result (Result A E) F) (P Q : A → Type 0) → ((x : A) → P x → Q x) → IfOk r (λ o. IfOk o P) → IfOk r (λ o. IfOk o Q)
+both_ok (Ok (Ok x)) P Q f h = f x h
+both_ok (Ok (Err e)) P Q f h = h
+both_ok (Err e) P Q f h = h

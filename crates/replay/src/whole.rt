@@ -41,6 +41,28 @@ pub fn replay<O: Office>(
     ensures always { LendingConserved O.Kind.Share.kind }
 {
     lending_is_conserved::<O::Kind>();
+    read_book(office, book, faults)
+}
+
+// The book read. It is by itself so that a wrong body is refused where it stands, and not in the proof of what follows from its
+// clauses.
+fn read_book<O: Office>(
+    office: &mut O,
+    book: &[u8],
+    faults: &mut Vec<Fault>,
+) -> Result<Result<Finished, Fault>, AllocError>
+    ensures opens { IfOk result (λ outcome. told_of outcome ≡ unopened (opening book.now)) }
+    ensures replays { IfOk result (λ outcome. IfOk outcome (λ finished. Replayed O.Kind.Share.kind (Stands O.Office.meaning O.Office.layers (O.Office.layers office.old)) book.now (O.Office.meaning office.old) (count_in book.now) (drop (vec_len faults.old) faults.new.items) finished.closed (O.Office.meaning office.new))) }
+    ensures kept { take (vec_len faults.old) faults.new.items ≡ faults.old.items }
+    ensures same { IfOk result (λ outcome. OnErr outcome ((office.new ≡ office.old) × (faults.new ≡ faults.old))) }
+    ensures no_memory { OnErr result ((office.new ≡ office.old) × (faults.new.items ≡ faults.old.items) × (vec_capacity faults.new ≡ vec_capacity faults.old)) }
+    ensures room { vec_len faults.old + count_in book.now ≤ vec_capacity faults.old → IsOk result }
+    ensures needed { OnErr result (unopened (opening book.now) ≡ None) }
+    ensures idle { AllQuiet O.Kind.Share.kind (O.Office.meaning office.old) book.now (count_in book.now) → office.new ≡ office.old }
+    ensures unused { unused (O.Office.rows office.new) ≡ unused (O.Office.rows office.old) }
+    ensures layers { O.Office.layers office.new ≡ O.Office.layers office.old }
+    ensures lent { O.Office.lent office.new ≡ O.Office.lent office.old }
+{
     let events = match count_events(book) {
         Ok(events) => events,
         Err(fault) => return Ok(Err(fault)),
