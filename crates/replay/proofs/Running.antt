@@ -1,25 +1,26 @@
--- Events stepped one after another come to what is worked out.
+-- Events stepped one after another; and where objections follow from layers, what they come to is what is worked out.
 use Rattle.std.proofs.Common.{◌≡◌, ℕ, zero, suc, ◌+◌, ◌<◌, Bool, List, [], ◌∷◌, ◌++◌, map, length, take, drop, Some, None, Ok, Err, Result, refl, sym, ap, ap₂, ◌∙◌, subst, arith, append-nil}
 use Rattle.std.specs.Prelude.{if◌then◌else◌, ◌*◌, slice_index}
 use Rattle.std.proofs.lemmas.Bool.{lt-ltb}
 use Rattle.std.proofs.lemmas.List.{map-append}
 use Rattle.shares.specs.Kind.{Kind}
-use Rattle.lending.specs.Office.{Core, State}
-use Rattle.lending.specs.Layers.{Layers, Follow, objections}
-use Rattle.lending.specs.Outcome.{Answer, Outcome}
+use Rattle.lending.specs.Office.{State}
+use Rattle.lending.specs.Layers.{Layers, Follow}
+use Rattle.lending.specs.Outcome.{Call, Outcome}
 use Rattle.lending.specs.Outcome.Outcome.{refuses, tells, grants}
 use Rattle.lending.specs.Perform.{perform, Ends, Does}
 use Rattle.lending.specs.Play.{answer_of, state_after}
-use Rattle.lending.specs.History.{Moment, Leads}
+use Rattle.lending.specs.History.{Moment, Leads, EachCameTo}
 use Rattle.lending.specs.Promise.{LendingConserved}
 use Rattle.lending.proofs.Histories.{leads_on}
+use Rattle.lending.proofs.Plays.{worked_call}
 use Rattle.book.specs.declared.code.Code.{Code}
 use Rattle.book.specs.declared.header.Header.{Header}
 use Rattle.book.specs.declared.book.Book.{Book}
 use Rattle.book.specs.Books.{opening, count_in, event_in, bytes_of}
 use Rattle.book.specs.Events.{asked}
 use Rattle.calls.specs.declared.list.Tallies.{Tallies}
-use Rattle.calls.specs.Listed.{all_closed, counted}
+use Rattle.calls.specs.Listed.{Stands, all_closed, counted}
 use Rattle.replay.specs.declared.fault.Fault.{Fault}
 use Rattle.replay.specs.declared.session.Reading.{Reading}
 use Rattle.replay.specs.Told.{Told, told, told_of}
@@ -28,6 +29,7 @@ use Rattle.replay.specs.Events.Next.{nothing, no_call, a_call}
 use Rattle.replay.specs.Steps.{Steps}
 use Rattle.replay.specs.Whole.{Opens, Turn, told_by, listed, history, refusals, tallies_of, turn_on, run, RunConserved, Replay}
 use Rattle.replay.specs.Whole.Turn.{passed, made}
+use Rattle.replay.specs.Came.{Came, Events, Replayed, OneReplay}
 
 -- a book's header has the count of its events
 pub header_counts : (book : Book) → count_in (bytes_of book) ≡ book.header.events
@@ -46,12 +48,49 @@ there b n i opens less = go (opening b) opens
 same_tallies : (x y : Tallies) → x.yielded ≡ y.yielded → x.merged ≡ y.merged → x.recalled ≡ y.recalled → x.lapsed ≡ y.lapsed → x ≡ y
 same_tallies x y a b c d = λ i. record { yielded = a i; merged = b i; recalled = c i; lapsed = d i }
 
+-- one moment more, with these tallies
+counted_on : {S : Type 0} (m : Moment S) (es : List (Turn S)) (x : Tallies) → x ≡ tallies_of es → counted x m.call m.answer ≡ tallies_of (made m ∷ es)
+counted_on m es x e =
+    let a = ap (λ (w : Tallies). w.yielded) e in
+    let d = ap (λ (w : Tallies). w.merged) e in
+    let f = ap (λ (w : Tallies). w.recalled) e in
+    let g = ap (λ (w : Tallies). w.lapsed) e in
+    same_tallies (counted x m.call m.answer) (tallies_of (made m ∷ es)) (omega arith) (omega arith) (omega arith) (omega arith)
+
+module _ {S : Type 0} (K : Kind S) where
+  -- the calls of some events are a list of calls
+  events_lead : (b : List ℕ) (es : List (Turn S)) (s t : State S) → Events K b es s t → Leads K s (history es) t
+  events_lead b [] s t e = e
+  events_lead b (e ∷ es) s t h = go (next b (length es)) e h.2 (events_lead b es s h.0 h.1)
+    where
+      go : (x : Next) (e : Turn S) → Came K x e h.0 t → Leads K s (history es) h.0 → Leads K s (history (e ∷ es)) t
+      go (nothing n) e c l = absurd c
+      go (no_call n) (passed k) c l = subst (λ (u : State S). Leads K s (history es) u) (sym c.1) l
+      go (no_call n) (made m) c l = absurd c
+      go (a_call n) (passed k) c l = absurd c
+      go (a_call n) (made m) c l = subst (λ (u : State S). Leads K s (history es) u × Does K u m.call m.answer t) (sym c.0) (l, subst (λ (w : Call). Does K h.0 w m.answer t) (sym c.1) c.2)
+
 module _ {S : Type 0} (K : Kind S) (layers : Layers S) where
-  -- a call that was made, and as it is worked out
-  worked_call : (o : Outcome S) (s u : State S) (a : Answer S) → Follow layers u → Ends o s a u → (a ≡ answer_of o) × (u ≡ state_after layers o s)
-  worked_call (refuses r) s u a q e = e
-  worked_call (tells x) s u a q e = e
-  worked_call (grants x v) s u a q e = (e.0, ap₂ (λ (c : Core S) (o : _). record { core = c; objections = o }) e.1 (q ∙ ap (λ (c : Core S). objections layers c.roll c.today) e.1))
+  -- an event that came to something, as it is worked out
+  turn_worked : (x : Next) (e : Turn S) (es : List (Turn S)) (u t : State S) (p : List (Turn S) × State S) → Came K x e u t → EachCameTo (Follow layers) (history (e ∷ es)) → Follow layers t → (EachCameTo (Follow layers) (history es) → Follow layers u → (es, u) ≡ p) → (e ∷ es, t) ≡ turn_on K layers x p
+  turn_worked (nothing n) e es u t p c each f before = absurd c
+  turn_worked (no_call n) (passed k) es u t p c each f before =
+      let q = before each (subst (Follow layers) c.1 f) in
+      ap₂ (λ (j : ℕ) (w : State S). (passed j ∷ es, w)) c.0 c.1 ∙ ap (λ (z : List (Turn S) × State S). (passed n ∷ z.0, z.1)) q
+  turn_worked (no_call n) (made m) es u t p c each f before = absurd c
+  turn_worked (a_call n) (passed k) es u t p c each f before = absurd c
+  turn_worked (a_call n) (made m) es u t p c each f before =
+      let q = before each.1 (subst (Follow layers) c.0 each.0) in
+      let at : u ≡ p.1 = ap (λ (z : List (Turn S) × State S). z.1) q in
+      let known = worked_call layers (perform K p.1 n) p.1 t m.answer f (subst (λ (w : State S). Does K w n m.answer t) at c.2) in
+      let start : m.before ≡ p.1 = c.0 ∙ at in
+      let moment : m ≡ record { before = p.1; call = n; answer = answer_of (perform K p.1 n) } = λ i. record { before = start i; call = c.1 i; answer = known.0 i } in
+      ap₂ (λ (ys : List (Turn S)) (w : State S). (ys, w)) (ap₂ (λ (y : Moment S) (ys : List (Turn S)). made y ∷ ys) moment (ap (λ (z : List (Turn S) × State S). z.0) q)) known.1
+
+  -- and so all of them
+  events_worked : (b : List ℕ) (es : List (Turn S)) (s t : State S) → Events K b es s t → EachCameTo (Follow layers) (history es) → Follow layers t → (es, t) ≡ run K layers b s (length es)
+  events_worked b [] s t e each f = ap (λ (w : State S). ([], w)) e
+  events_worked b (e ∷ es) s t h each f = turn_worked (next b (length es)) e es h.0 t (run K layers b s (length es)) h.2 each f (λ k g. events_worked b es s h.0 h.1 k g)
 
   -- what is worked out is a list of calls
   run_leads : (b : List ℕ) (s : State S) (n : ℕ) → Leads K s (history (run K layers b s n).0) (run K layers b s n).1
@@ -77,59 +116,83 @@ module _ {S : Type 0} (K : Kind S) (layers : Layers S) where
         conserved = λ start up earlier before. always start p.1 up (history p.0 ++ earlier) (leads_on K start s p.1 (history p.0) earlier before (run_leads b s n));
       }
 
-  pub none_read : (b : List ℕ) (s : State S) (tallies : Tallies) → all_closed tallies ≡ 0 → Replay K layers b s 0 [] tallies s
-  none_read b s tallies none = record {
-    every = refl;
-    leaves = refl;
-    refused = refl;
-    tallied = same_tallies tallies (tallies_of {S = S} []) (omega arith) (omega arith) (omega arith) (omega arith);
-  }
+module _ {O S : Type 0} (K : Kind S) (means : O → State S) (layers : O → Layers S) (ls : Layers S) (follow : (o : O) → Follow (layers o) (means o)) where
+  follows : (s : State S) → Stands means layers ls s → Follow ls s
+  follows s h = subst (λ (x : State S). Follow ls x) h.1 (subst (λ (l : Layers S). Follow l (means h.0)) h.2 (follow h.0))
+
+  each_follows : (ms : List (Moment S)) → EachCameTo (Stands means layers ls) ms → EachCameTo (Follow ls) ms
+  each_follows [] each = tt
+  each_follows (m ∷ ms) each = (follows m.before each.0, each_follows ms each.1)
+
+  -- where objections follow from layers, a replay is what is worked out
+  pub replayed_is_run : (b : List ℕ) (s : State S) (n : ℕ) (faults : List Fault) (tallies : Tallies) (t : State S) → Stands means layers ls t → Replayed K (Stands means layers ls) b s n faults tallies t → Replay K ls b s n faults tallies t
+  replayed_is_run b s n faults tallies t f whole =
+      let q = events_worked K ls b whole.turns s t whole.events (each_follows (history whole.turns) whole.stood) (follows t f) ∙ ap (run K ls b s) whole.every in
+      let es = ap (λ (z : List (Turn S) × State S). z.0) q in
+      record {
+        every = ap length (sym es) ∙ whole.every;
+        leaves = ap (λ (z : List (Turn S) × State S). z.1) q;
+        refused = whole.refused ∙ ap refusals es;
+        tallied = whole.tallied ∙ ap tallies_of es;
+      }
+
+  -- and so there is one
+  pub one_replay : (b : List ℕ) (s : State S) (n : ℕ) → OneReplay K (Stands means layers ls) b s n
+  one_replay b s n t u faults others x y first f second g =
+      let p = replayed_is_run b s n faults x t f first in
+      let q = replayed_is_run b s n others y u g second in
+      (p.leaves ∙ sym q.leaves, p.refused ∙ sym q.refused, p.tallied ∙ sym q.tallied)
+
+module _ {S : Type 0} (K : Kind S) (Of : State S → Type 0) where
+  -- the promise of some events
+  replayed : LendingConserved K → (b : List ℕ) (s t : State S) (n : ℕ) (faults : List Fault) (tallies : Tallies) (es : List (Turn S)) → length es ≡ n → Events K b es s t → EachCameTo Of (history es) → map told faults ≡ refusals es → tallies ≡ tallies_of es → Replayed K Of b s n faults tallies t
+  replayed always b s t n faults tallies es every events stood refused tallied =
+      let leads = events_lead K b es s t events in
+      record {
+        turns = es;
+        every = every;
+        events = events;
+        stood = stood;
+        refused = refused;
+        tallied = tallied;
+        from_empty = λ up. always s t up (history es) leads;
+        conserved = λ start up earlier before. always start t up (history es ++ earlier) (leads_on K start s t (history es) earlier before leads);
+      }
+
+  pub none_read : LendingConserved K → (b : List ℕ) (s : State S) (tallies : Tallies) → all_closed tallies ≡ 0 → Replayed K Of b s 0 [] tallies s
+  none_read always b s tallies none = replayed always b s s 0 [] tallies [] refl refl tt refl (same_tallies tallies (tallies_of {S = S} []) (omega arith) (omega arith) (omega arith) (omega arith))
 
   -- one event more
-  pub one_more : (b : List ℕ) (s t u : State S) (m n : ℕ) (faults more : List Fault) (x y : Reading) (r : Result (Unit {0}) Fault) → Opens (opening b) m → n < count_in b → Replay K layers b s n faults x.tallies t → x.done ≡ n → Follow layers u → Steps K (next b x.done) t x r y u → map told more ≡ map told faults ++ listed (told_of r) → Replay K layers b s (n + 1) more y.tallies u × (y.done ≡ n + 1)
-  one_more b s t u m n faults more x y r opens less so_far done follow steps grows = by_event (there b m x.done opens (omega arith))
+  pub one_more : LendingConserved K → (b : List ℕ) (s t u : State S) (m n : ℕ) (faults more : List Fault) (x y : Reading) (r : Result (Unit {0}) Fault) → Opens (opening b) m → n < count_in b → Replayed K Of b s n faults x.tallies t → x.done ≡ n → Of t → Steps K (next b x.done) t x r y u → map told more ≡ map told faults ++ listed (told_of r) → Replayed K Of b s (n + 1) more y.tallies u × (y.done ≡ n + 1)
+  one_more always b s t u m n faults more x y r opens less so_far done here steps grows = by_event (there b m x.done opens (omega arith))
     where
-      p : List (Turn S) × State S
-      p = run K layers b s n
+      es : List (Turn S)
+      es = so_far.turns
 
-      place : x.done ≡ length p.0
+      place : x.done ≡ length es
       place = done ∙ sym so_far.every
 
-      with : (turn : Turn S) → turn_on K layers (next b n) p ≡ (turn ∷ p.0, u) → told_of r ≡ told_by (x.done + 1) turn → y.tallies ≡ tallies_of (turn ∷ p.0) → Replay K layers b s (n + 1) more y.tallies u
-      with turn is named counts =
-          let e : n + 1 ≡ suc n = omega arith in
-          let q : turn_on K layers (next b n) p ≡ run K layers b s (n + 1) = ap (run K layers b s) (sym e) in
-          let w = sym is ∙ q in
-          let turns = ap (λ (z : List (Turn S) × State S). z.0) w in
-          record {
-            every = ap length (sym turns) ∙ (let k = so_far.every in omega arith);
-            leaves = ap (λ (z : List (Turn S) × State S). z.1) w;
-            refused = grows ∙ ap₂ (λ (a c : List Told). a ++ c) so_far.refused (ap listed (named ∙ ap (λ (k : ℕ). told_by (k + 1) turn) place)) ∙ ap refusals turns;
-            tallied = counts ∙ ap tallies_of turns;
-          }
+      with : (turn : Turn S) → Came K (next b x.done) turn t u → EachCameTo Of (history (turn ∷ es)) → told_of r ≡ told_by (x.done + 1) turn → y.tallies ≡ tallies_of (turn ∷ es) → Replayed K Of b s (n + 1) more y.tallies u
+      with turn came stood named counts = replayed always b s u (n + 1) more y.tallies (turn ∷ es)
+          (let k = so_far.every in omega arith)
+          (t, so_far.events, subst (λ (j : ℕ). Came K (next b j) turn t u) place came)
+          stood
+          (grows ∙ ap₂ (λ (a c : List Told). a ++ c) so_far.refused (ap listed (named ∙ ap (λ (k : ℕ). told_by (k + 1) turn) place)))
+          counts
 
-      by_asked : (q : Result (Code × List ℕ) ℕ) → next b x.done ≡ asks q → Steps K (asks q) t x r y u → Replay K layers b s (n + 1) more y.tallies u × (y.done ≡ n + 1)
-      by_asked (Err k) is z =
-          let here = ap (λ (j : ℕ). turn_on K layers (next b j) p) (sym done) ∙ ap (λ (w : Next). turn_on K layers w p) is in
-          (with (passed k) (here ∙ ap (λ (v : State S). (passed k ∷ p.0, v)) (sym so_far.leaves ∙ sym z.1.2)) z.1.0 (z.1.1 ∙ so_far.tallied), let j = z.0 in omega arith)
+      by_asked : (q : Result (Code × List ℕ) ℕ) → next b x.done ≡ asks q → Steps K (asks q) t x r y u → Replayed K Of b s (n + 1) more y.tallies u × (y.done ≡ n + 1)
+      by_asked (Err k) is z = (
+        with (passed k) (subst (λ (w : Next). Came K w (passed k) t u) (sym is) (refl, z.1.2)) so_far.stood z.1.0 (z.1.1 ∙ so_far.tallied),
+        let j = z.0 in omega arith,
+      )
       by_asked (Ok v) is z =
           let c = call_of v.0 v.1 in
-          let o = perform K p.1 c in
-          let moment : Moment S = record { before = p.1; call = c; answer = answer_of o } in
-          let here = ap (λ (j : ℕ). turn_on K layers (next b j) p) (sym done) ∙ ap (λ (w : Next). turn_on K layers w p) is in
-          let does = subst (λ (w : State S). Does K w c z.1.answer u) so_far.leaves z.1.does in
-          let known = worked_call o p.1 u z.1.answer follow does in
-          let counts : y.tallies ≡ counted x.tallies c (answer_of o) = z.1.counts ∙ ap (counted x.tallies c) known.0 in
-          let a = ap (λ (w : Tallies). w.yielded) so_far.tallied in
-          let d = ap (λ (w : Tallies). w.merged) so_far.tallied in
-          let f = ap (λ (w : Tallies). w.recalled) so_far.tallied in
-          let g = ap (λ (w : Tallies). w.lapsed) so_far.tallied in (
-            with (made moment) (here ∙ ap (λ (w : State S). (made moment ∷ p.0, w)) (sym known.1)) (z.1.tells ∙ ap (λ (w : Answer S). told_by (x.done + 1) (made (record { before = p.1; call = c; answer = w }))) known.0)
-                (counts ∙ same_tallies (counted x.tallies c (answer_of o)) (tallies_of (made moment ∷ p.0)) (omega arith) (omega arith) (omega arith) (omega arith)),
+          let moment : Moment S = record { before = t; call = c; answer = z.1.answer } in (
+            with (made moment) (subst (λ (w : Next). Came K w (made moment) t u) (sym is) (refl, refl, z.1.does)) (here, so_far.stood) z.1.tells (z.1.counts ∙ counted_on moment es x.tallies so_far.tallied),
             let j = z.0 in omega arith,
           )
 
-      by_event : (e : ℕ × List ℕ) × (event_at b x.done ≡ Ok e) → Replay K layers b s (n + 1) more y.tallies u × (y.done ≡ n + 1)
+      by_event : (e : ℕ × List ℕ) × (event_at b x.done ≡ Ok e) → Replayed K Of b s (n + 1) more y.tallies u × (y.done ≡ n + 1)
       by_event found =
           let is = ap next_by found.1 in
           by_asked (asked found.0.0 found.0.1) is (subst (λ (q : Next). Steps K q t x r y u) is steps)

@@ -4,3 +4,5 @@ pub mod Events
 pub mod Turns
 pub mod Steps
 pub mod Whole
+pub mod Came
+pub mod Quiet

@@ -1,10 +1,10 @@
--- A whole replay: what the events of a book come to, worked out one by one.
+-- A whole replay: what is read off what the events of a book came to; and what they come to, worked out one by one, at an office
+-- whose objections follow from its layers.
 use Rattle.std.specs.Prelude.{◌≡◌, ℕ, zero, suc, ◌+◌, List, [], ◌∷◌, ◌++◌, length, map, Option, Some, None, Result, Ok, Err}
 use Rattle.shares.specs.Kind.{Kind}
 use Rattle.lending.specs.Office.{State, SetUp}
 use Rattle.lending.specs.Layers.{Layers}
-use Rattle.lending.specs.Perform.{perform}
-use Rattle.lending.specs.Play.{answer_of, state_after}
+use Rattle.lending.specs.Play.{play}
 use Rattle.lending.specs.History.{Moment, Leads, yielded, merged, recalled, lapsed}
 use Rattle.lending.specs.Promise.{Conserved}
 use Rattle.book.specs.declared.header.Header.{Header}
@@ -59,7 +59,7 @@ module _ {S : Type 0} (K : Kind S) (layers : Layers S) where
   abbrev pub turn_on : Next → List (Turn S) × State S → List (Turn S) × State S
   turn_on (nothing n) p = p
   turn_on (no_call n) p = (passed n ∷ p.0, p.1)
-  turn_on (a_call c) p = let o = perform K p.1 c in (made (record { before = p.1; call = c; answer = answer_of o }) ∷ p.0, state_after layers o p.1)
+  turn_on (a_call c) p = let played = play K layers p.1 (c ∷ []) in (map made played.0 ++ p.0, played.1)
 
   -- What the first n events of a book with these bytes come to at an office with these layers that stands for s, the last one
   -- first, and the state that they lead to.

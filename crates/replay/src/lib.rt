@@ -9,4 +9,4 @@ mod whole;
 
 pub use fault::{Cause, Fault};
 pub use session::{Finished, Reading};
-pub use whole::{Replayed, replay};
+pub use whole::replay;

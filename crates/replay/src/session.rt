@@ -1,10 +1,11 @@
-ghost use Rattle.std.specs.Prelude.{◌≡◌, ◌<◌, ◌≤◌, ◌+◌, ◌*◌, ◌^◌, false, is_ok};
+ghost use Rattle.std.specs.Prelude.{◌≡◌, ◌<◌, ◌≤◌, ◌+◌, ◌*◌, ◌^◌, true, false, is_ok};
 ghost use Rattle.office.specs.Lawful.{unused};
 ghost use Rattle.book.specs.Events.{asked};
 ghost use Rattle.calls.specs.Listed.{all_closed};
 ghost use Rattle.replay.specs.Events.{asks};
 ghost use Rattle.replay.specs.Limits.{most_closed};
 ghost use Rattle.replay.specs.Turns.{Comes, kept};
+ghost use Rattle.replay.specs.Quiet.{quiet};
 
 use crate::event::{call_of, next_event, none_left};
 use crate::fault::Fault;
@@ -44,6 +45,7 @@ impl Reading {
     pub fn step<O: Office>(&mut self, office: &mut O, book: &[u8]) -> Result<(), Fault>
         ensures steps { Steps O.Kind.Share.kind (next book.now self.old.done) (O.Office.meaning office.old) self.old result self.new (O.Office.meaning office.new) }
         ensures same { is_ok result ≡ false → office.new ≡ office.old }
+        ensures idle { quiet O.Kind.Share.kind (O.Office.meaning office.old) (next book.now self.old.done) ≡ true → office.new ≡ office.old }
         ensures unused { unused (O.Office.rows office.new) ≡ unused (O.Office.rows office.old) }
         ensures layers { O.Office.layers office.new ≡ O.Office.layers office.old }
         ensures lent { O.Office.lent office.new ≡ O.Office.lent office.old }
@@ -88,6 +90,7 @@ fn make_event<O: Office>(office: &mut O, event: Event, tallies: Tallies) -> Resu
     ensures comes { Comes O.Kind.Share.kind (asks (asked event.entry.code event.entry.bytes.now)) 0 (O.Office.meaning office.old) tallies result (kept tallies result) (O.Office.meaning office.new) }
     ensures few { all_closed (kept tallies result) ≤ all_closed tallies + most_closed }
     ensures same { is_ok result ≡ false → office.new ≡ office.old }
+    ensures idle { quiet O.Kind.Share.kind (O.Office.meaning office.old) (asks (asked event.entry.code event.entry.bytes.now)) ≡ true → office.new ≡ office.old }
     ensures unused { unused (O.Office.rows office.new) ≡ unused (O.Office.rows office.old) }
     ensures layers { O.Office.layers office.new ≡ O.Office.layers office.old }
     ensures lent { O.Office.lent office.new ≡ O.Office.lent office.old }

@@ -1,36 +1,40 @@
-ghost use Rattle.std.specs.Prelude.{◌≡◌, ◌≤◌, [], IfOk, OnErr, vec_capacity};
+ghost use Rattle.std.specs.Prelude.{◌≡◌, ◌≤◌, ◌+◌, None, IsOk, IfOk, OnErr, drop, take, vec_len, vec_capacity};
+ghost use Rattle.lending.specs.Layers.{Follow};
 ghost use Rattle.lending.specs.Promise.{LendingConserved};
 ghost use Rattle.office.specs.Lawful.{unused};
 ghost use Rattle.book.specs.Books.{opening, count_in};
+ghost use Rattle.calls.specs.Listed.{Stands};
 ghost use Rattle.replay.specs.Told.{told_of};
 ghost use Rattle.replay.specs.Whole.{Replay, RunConserved, Opens, unopened};
+ghost use Rattle.replay.specs.Came.{Replayed, OneReplay};
+ghost use Rattle.replay.specs.Quiet.{AllQuiet};
 
 use crate::fault::Fault;
 use crate::session::{Finished, Reading};
 use book::Book;
 use lending::lending_is_conserved;
-use office::Piled;
-use std::alloc::{AllocError, Global};
+use office::Office;
+use std::alloc::AllocError;
 
-// What came of a replay: the finished session, and the faults of the refused events, in the order of the book.
-#[derive(Debug, Drop)]
-pub struct Replayed {
-    pub finished: Finished,
-    pub faults: Vec<Fault>,
-}
-
-// Replays a book over an office: each of its events is stepped once, in their order, and the session is finished. Refused
-// only as opening is. The memory for the faults is taken before the first event.
-pub fn replay<O: Piled>(
-    alloc: Global,
+// Replays a book over an office: each of its events is stepped once, in their order, and the session is finished. The faults of
+// the refused events are added to a list that the caller owns. Refused only as opening is; then office and list stay as they
+// were. So they do where memory runs out: what the list needs is taken before the first event.
+pub fn replay<O: Office>(
     office: &mut O,
     book: &[u8],
-) -> Result<Result<Replayed, Fault>, AllocError>
+    faults: &mut Vec<Fault>,
+) -> Result<Result<Finished, Fault>, AllocError>
     ensures opens { IfOk result (λ outcome. told_of outcome ≡ unopened (opening book.now)) }
-    ensures replays { IfOk result (λ outcome. IfOk outcome (λ whole. Replay O.Kind.Share.kind (O.Office.layers office.old) book.now (O.Office.meaning office.old) (count_in book.now) whole.faults.items whole.finished.closed (O.Office.meaning office.new))) }
+    ensures replays { IfOk result (λ outcome. IfOk outcome (λ finished. Replayed O.Kind.Share.kind (Stands O.Office.meaning O.Office.layers (O.Office.layers office.old)) book.now (O.Office.meaning office.old) (count_in book.now) (drop (vec_len faults.old) faults.new.items) finished.closed (O.Office.meaning office.new))) }
+    ensures runs { ((o : O) → Follow (O.Office.layers o) (O.Office.meaning o)) → IfOk result (λ outcome. IfOk outcome (λ finished. Replay O.Kind.Share.kind (O.Office.layers office.old) book.now (O.Office.meaning office.old) (count_in book.now) (drop (vec_len faults.old) faults.new.items) finished.closed (O.Office.meaning office.new))) }
+    ensures once { ((o : O) → Follow (O.Office.layers o) (O.Office.meaning o)) → OneReplay O.Kind.Share.kind (Stands O.Office.meaning O.Office.layers (O.Office.layers office.old)) book.now (O.Office.meaning office.old) (count_in book.now) }
     ensures conserved { RunConserved O.Kind.Share.kind (O.Office.layers office.old) book.now (O.Office.meaning office.old) (count_in book.now) }
-    ensures same { IfOk result (λ outcome. OnErr outcome (office.new ≡ office.old)) }
-    ensures no_memory { OnErr result (office.new ≡ office.old) }
+    ensures kept { take (vec_len faults.old) faults.new.items ≡ faults.old.items }
+    ensures same { IfOk result (λ outcome. OnErr outcome ((office.new ≡ office.old) × (faults.new ≡ faults.old))) }
+    ensures no_memory { OnErr result ((office.new ≡ office.old) × (faults.new.items ≡ faults.old.items) × (vec_capacity faults.new ≡ vec_capacity faults.old)) }
+    ensures room { vec_len faults.old + count_in book.now ≤ vec_capacity faults.old → IsOk result }
+    ensures needed { OnErr result (unopened (opening book.now) ≡ None) }
+    ensures idle { AllQuiet O.Kind.Share.kind (O.Office.meaning office.old) book.now (count_in book.now) → office.new ≡ office.old }
     ensures unused { unused (O.Office.rows office.new) ≡ unused (O.Office.rows office.old) }
     ensures layers { O.Office.layers office.new ≡ O.Office.layers office.old }
     ensures lent { O.Office.lent office.new ≡ O.Office.lent office.old }
@@ -41,10 +45,10 @@ pub fn replay<O: Piled>(
         Ok(events) => events,
         Err(fault) => return Ok(Err(fault)),
     };
-    let mut faults = Vec::with_capacity(alloc, usize::from(events))?;
-    let session = read_events(office, book, events, &mut faults);
+    faults.reserve(usize::from(events))?;
+    let session = read_events(office, book, events, faults);
     Ok(match session.finish(book) {
-        Ok(finished) => Ok(Replayed { finished, faults }),
+        Ok(finished) => Ok(finished),
         Err((_, fault)) => Err(fault),
     })
 }
@@ -62,7 +66,7 @@ fn count_events(book: &[u8]) -> Result<u16, Fault>
 
 // Steps every event of a book that opens and has so many. The loop is by itself so that a wrong call of it is refused where it
 // stands, and not in the proof of the loop.
-fn read_events<O: Piled>(
+fn read_events<O: Office>(
     office: &mut O,
     book: &[u8],
     events: u16,
@@ -70,14 +74,16 @@ fn read_events<O: Piled>(
 ) -> Reading
     requires opens { Opens (opening book.now) events }
     requires counted { events ≡ count_in book.now }
-    requires none { faults.old.items ≡ [] }
-    requires room { events ≤ vec_capacity faults.old }
-    ensures replays { Replay O.Kind.Share.kind (O.Office.layers office.old) book.now (O.Office.meaning office.old) events faults.new.items result.tallies (O.Office.meaning office.new) }
+    requires room { vec_len faults.old + events ≤ vec_capacity faults.old }
+    ensures replays { Replayed O.Kind.Share.kind (Stands O.Office.meaning O.Office.layers (O.Office.layers office.old)) book.now (O.Office.meaning office.old) events (drop (vec_len faults.old) faults.new.items) result.tallies (O.Office.meaning office.new) }
+    ensures kept { take (vec_len faults.old) faults.new.items ≡ faults.old.items }
     ensures done { result.done ≡ events }
+    ensures idle { AllQuiet O.Kind.Share.kind (O.Office.meaning office.old) book.now events → office.new ≡ office.old }
     ensures unused { unused (O.Office.rows office.new) ≡ unused (O.Office.rows office.old) }
     ensures layers { O.Office.layers office.new ≡ O.Office.layers office.old }
     ensures lent { O.Office.lent office.new ≡ O.Office.lent office.old }
 {
+    lending_is_conserved::<O::Kind>();
     let mut session = Reading::new();
     for _event in 0..events {
         if let Err(fault) = session.step(office, book) {

@@ -1,17 +1,23 @@
-use Rattle.std.proofs.Common.{◌≡◌, ◌++◌, ◌∙◌, length, map, ap, refl, subst, arith}
-use Rattle.lending.specs.Layers.{Layers, Follow}
+use Rattle.std.proofs.Common.{◌≡◌, ◌++◌, ◌∙◌, true, [], ◌∷◌, map, take, drop, ap, refl, sym, subst, arith, vec_len}
+use Rattle.std.proofs.lemmas.List.{take_all, drop_all, take-append-le, drop-append-le}
+use Rattle.calls.specs.Listed.{Stands}
 use Rattle.replay.specs.Told.{told, told_of}
+use Rattle.replay.specs.Events.{next}
 use Rattle.replay.specs.Whole.{listed}
+use Rattle.replay.specs.Quiet.{quiet}
 use Rattle.replay.proofs.Running.{none_read, one_more, one_fault, no_fault}
 use Rattle.replay.proofs.whole.read_events.Goals as goal
 use Rattle.replay.proofs.whole.read_events.Goals.{in-Err, in_default}
 
 pub loop-event-init : goal.loop-event-init
 loop-event-init g c = record {
-  so_far = rw c.requires.none (none_read g.O.Kind.Share.kind (g.O.Office.layers c.args.office.now) c.args.book.now (g.O.Office.meaning c.args.office.now) c.new-session.result.tallies c.new-session.ensures.counted);
+  so_far = rw (drop_all (vec_len c.args.faults.now) c.args.faults.now.items (omega arith)) (none_read g.O.Kind.Share.kind (Stands g.O.Office.meaning g.O.Office.layers (g.O.Office.layers c.args.office.now)) c.lending_is_conserved.ensures.always c.args.book.now (g.O.Office.meaning c.args.office.now) c.new-session.result.tallies c.new-session.ensures.counted);
+  kept = take_all (vec_len c.args.faults.now) c.args.faults.now.items (omega arith);
   done = c.new-session.ensures.begins;
-  few = let none = ap length c.requires.none in omega arith;
+  grows = omega arith;
+  few = omega arith;
   room = c.requires.room;
+  idle = λ all. refl;
   unused = refl;
   layers = refl;
   lent = refl;
@@ -20,18 +26,28 @@ loop-event-init g c = record {
 pub loop-event-preserved : goal.loop-event-preserved
 loop-event-preserved g c =
     let inv = c.loop-event.invariant in
-    let grows : map told c.match-step.faults.items ≡ map told c.loop-event.faults.items ++ listed (told_of c.step.result) = elim c.match-step.branch [
+    let old = vec_len c.args.faults.now in
+    let grows : map told (drop old c.match-step.faults.items) ≡ map told (drop old c.loop-event.faults.items) ++ listed (told_of c.step.result) = elim c.match-step.branch [
       | in-Err w ↦
           let pushed = rw w.unwrap.ensures at w.push.ensures.items in
-          rw w.faults-is (one_fault c.loop-event.faults.items w.push.new.self.items c.step.result w.in-Err.fault pushed w.in-Err.is)
-      | in_default w ↦ rw w.faults-is (no_fault c.loop-event.faults.items c.step.result w.in_default.not-Err)
+          let more = ap (drop old) pushed ∙ drop-append-le old c.loop-event.faults.items (w.in-Err.fault ∷ []) (let k = inv.grows in omega arith) in
+          rw w.faults-is (one_fault (drop old c.loop-event.faults.items) (drop old w.push.new.self.items) c.step.result w.in-Err.fault more w.in-Err.is)
+      | in_default w ↦ rw w.faults-is (no_fault (drop old c.loop-event.faults.items) c.step.result w.in_default.not-Err)
     ] in
-    let layers = c.step.ensures.layers ∙ inv.layers in
-    let follow = subst (λ (l : Layers g.row.O-Kind.Denot). Follow l (g.O.Office.meaning c.step.new.office)) layers (g.met.O.Piled.follow c.step.new.office) in
-    let more = one_more g.O.Kind.Share.kind (g.O.Office.layers c.args.office.now) c.args.book.now (g.O.Office.meaning c.args.office.now) (g.O.Office.meaning c.loop-event.office) (g.O.Office.meaning c.step.new.office) c.args.events c.loop-event._event c.loop-event.faults.items c.match-step.faults.items c.loop-event.session c.step.new.self c.step.result c.requires.opens (let n = c.requires.counted in omega arith) inv.so_far inv.done follow c.step.ensures.steps grows in
+    let more = one_more g.O.Kind.Share.kind (Stands g.O.Office.meaning g.O.Office.layers (g.O.Office.layers c.args.office.now)) c.lending_is_conserved.ensures.always c.args.book.now (g.O.Office.meaning c.args.office.now) (g.O.Office.meaning c.loop-event.office) (g.O.Office.meaning c.step.new.office) c.args.events c.loop-event._event (drop old c.loop-event.faults.items) (drop old c.match-step.faults.items) c.loop-event.session c.step.new.self c.step.result c.requires.opens (let n = c.requires.counted in omega arith) inv.so_far inv.done (c.loop-event.office, refl, inv.layers) c.step.ensures.steps grows in
     record {
       so_far = more.0;
+      kept = elim c.match-step.branch [
+        | in-Err w ↦
+            let pushed = rw w.unwrap.ensures at w.push.ensures.items in
+            rw w.faults-is (ap (take old) pushed ∙ take-append-le old c.loop-event.faults.items (w.in-Err.fault ∷ []) (let k = inv.grows in omega arith) ∙ inv.kept)
+        | in_default w ↦ rw w.faults-is inv.kept
+      ];
       done = more.1;
+      grows = elim c.match-step.branch [
+        | in-Err w ↦ rw w.faults-is (let more = rw w.unwrap.ensures at w.push.ensures.len in omega arith)
+        | in_default w ↦ rw w.faults-is (omega arith)
+      ];
       few = elim c.match-step.branch [
         | in-Err w ↦ rw w.faults-is (let more = rw w.unwrap.ensures at w.push.ensures.len in omega arith)
         | in_default w ↦ rw w.faults-is (omega arith)
@@ -40,7 +56,11 @@ loop-event-preserved g c =
         | in-Err w ↦ rw w.faults-is (omega (arith, w.push.ensures.capacity))
         | in_default w ↦ rw w.faults-is (omega arith)
       ];
+      idle = λ all.
+          let stays = inv.idle all in
+          let here : quiet g.O.Kind.Share.kind (g.O.Office.meaning c.args.office.now) (next c.args.book.now c.loop-event.session.done) ≡ true = all c.loop-event.session.done (let d = inv.done in omega arith) in
+          c.step.ensures.idle (subst (λ (o : g.row.O.Denot). quiet g.O.Kind.Share.kind (g.O.Office.meaning o) (next c.args.book.now c.loop-event.session.done) ≡ true) (sym stays) here) ∙ stays;
       unused = c.step.ensures.unused ∙ inv.unused;
-      layers = layers;
+      layers = c.step.ensures.layers ∙ inv.layers;
       lent = c.step.ensures.lent ∙ inv.lent;
     }
