@@ -1,5 +1,5 @@
 -- Texts added to some bytes one after another.
-use Rattle.std.proofs.Common.{◌≡◌, ◌⊎◌, ℕ, Bool, true, false, ◌+◌, ◌<◌, ◌≤◌, List, [], ◌∷◌, ◌++◌, length, length-append, Ok, Err, Result, IsErr, is_ok, OnErr, if◌then◌else◌, append-nil, refl, sym, ap, ◌∙◌, subst, arith}
+use Rattle.std.proofs.Common.{◌≡◌, ℕ, Bool, true, false, ◌+◌, ◌<◌, ◌≤◌, List, [], ◌++◌, length, length-append, Ok, Err, Result, IsErr, IsOk, is_ok, OnErr, if◌then◌else◌, append-nil, refl, sym, ap, ◌∙◌, subst, arith}
 use Rattle.std.proofs.lemmas.List.{append_assoc}
 use Rattle.listing.specs.Adds.{Begins, Adds}
 
@@ -63,3 +63,8 @@ pub stopped : {A E A' E' A'' E'' : Type 0} (before mid after so_far text rest le
 stopped before mid after so_far text rest left whole room room_mid room_after x z r err p q parts first =
     let e = adds_err mid after text left rest room_mid room_after z r err first q in
     subst (λ (w : List ℕ). Adds before room w r after room_after) parts (adds_then before mid after so_far rest room room_mid room_after x r p e)
+
+-- where there was room, no memory was wanted
+pub adds_room : {A E : Type 0} (before after text : List ℕ) (len room room_after : ℕ) (r : Result A E) → Adds before room text r after room_after → len ≡ length before → len + length text ≤ room → IsOk r
+adds_room before after text len room room_after (Ok x) p l fits = refl
+adds_room before after text len room room_after (Err x) p l fits = absurd (let f = p.full in omega (arith, f, l, fits))

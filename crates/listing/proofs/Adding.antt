@@ -1,5 +1,6 @@
 -- Lines added to some bytes.
-use Rattle.std.proofs.Common.{◌≡◌, ℕ, zero, suc, ◌+◌, ◌<◌, ◌≤◌, List, [], ◌∷◌, ◌++◌, length, map, take, drop, slice_get, Bool, true, Some, Option, Ok, Err, Result, IsOk, nat_le, if◌then◌else◌, refl, sym, ap, ap₂, ◌∙◌, subst, arith, le_of_suc-le-suc}
+use Rattle.std.proofs.Common.{◌≡◌, ℕ, zero, suc, ◌+◌, ◌<◌, ◌≤◌, List, [], ◌∷◌, ◌++◌, length, map, take, drop, get_or, slice_get, Bool, true, Some, Option, Ok, Err, Result, IsOk, nat_le, if◌then◌else◌, refl, sym, ap, ap₂, ◌∙◌, subst, arith, le_of_suc-le-suc}
+use Rattle.std.specs.List.{AllByRecursion}
 use Rattle.std.specs.Option.{option_map, unwrap_or}
 use Rattle.std.proofs.lemmas.Bool.{le-leb}
 use mathlib.Core.List.{Memᴰ}
@@ -12,7 +13,10 @@ use Rattle.printout.specs.declared.reason.LineReason.{LineReason}
 use Rattle.printout.specs.declared.reason.LineReason.TheVariants.{LineTooLong}
 use Rattle.printout.specs.Answers.{answer_of, space_after}
 use Rattle.printout.specs.Lines.{line_at, lease_line, LinesAreShort}
-use Rattle.listing.specs.Shown.{shown_lease, lease_lines}
+use Rattle.replay.specs.declared.fault.Fault.{Fault}
+use Rattle.replay.specs.Told.{told}
+use Rattle.listing.specs.Readable.{ReadableTold}
+use Rattle.listing.specs.Shown.{line_of, refusal_lines, shown_lease, lease_lines}
 
 module _ {A : Type 0} where
   -- what is at a position within a list
@@ -84,3 +88,15 @@ module _ {S : Type 0} (K : Kind S) (text : S → List ℕ) (roll : List (Lease S
       let e = ap (option_map (lease_line K text roll)) x.1 in
       placed (lease_line K text roll x.0) space after r n (short x.0 x.2) size (a ∙ ap (λ (o : Option (List ℕ)). answer_of o space) e) (b ∙ ap (λ (o : Option (List ℕ)). space_after o space) e) c
       ∙ sym (ap (λ (o : Option (List ℕ)). unwrap_or o []) e)
+
+-- the line of a fault is the first of those to come
+pub first_refusal : (xs : List Fault) (i : ℕ) (d : Fault) → i < length xs → line_of (told (get_or xs i d)) ++ refusal_lines (map told (drop (i + 1) xs)) ≡ refusal_lines (map told (drop i xs))
+first_refusal [] i d l = absurd (omega arith)
+first_refusal (x ∷ xs) zero d l = refl
+first_refusal (x ∷ xs) (suc i) d l = let e : suc i + 1 ≡ suc (i + 1) = omega arith in ap (λ (j : ℕ). line_of (told (get_or xs i d)) ++ refusal_lines (map told (drop j (x ∷ xs)))) e ∙ first_refusal xs i d (le_of_suc-le-suc l)
+
+-- one fault more can be read back
+pub one_readable : (xs : List Fault) (i : ℕ) (d : Fault) → i < length xs → AllByRecursion ReadableTold (map told (take i xs)) → ReadableTold (told (get_or xs i d)) → AllByRecursion ReadableTold (map told (take (i + 1) xs))
+one_readable [] i d l p q = absurd (omega arith)
+one_readable (x ∷ xs) zero d l p q = (q, tt)
+one_readable (x ∷ xs) (suc i) d l p q = let e : suc i + 1 ≡ suc (i + 1) = omega arith in subst (λ (j : ℕ). AllByRecursion ReadableTold (map told (take j (x ∷ xs)))) (sym e) (p.0, one_readable xs i d (le_of_suc-le-suc l) p.1 q)

@@ -1,10 +1,11 @@
 -- The printout of a whole book, worked out from its bytes.
-use Rattle.std.specs.Prelude.{◌≡◌, ℕ, List, ◌++◌, Some, None, Option, Ok, Err, Result}
+use Rattle.std.specs.Prelude.{ℕ, List, [], Ok, Err, Result}
 use Rattle.shares.specs.Kind.{Kind}
 use Rattle.lending.specs.Office.{State}
 use Rattle.lending.specs.Layers.{Layers}
 use Rattle.book.specs.declared.header.Header.{Header}
 use Rattle.book.specs.Books.{opening, count_in}
+use Rattle.replay.specs.Told.{Told}
 use Rattle.replay.specs.Whole.{refusals, tallies_of, run}
 use Rattle.listing.specs.Shown.{Shown, shown_unopened, shown_opened, text_of}
 
@@ -20,6 +21,14 @@ module _ {S : Type 0} (K : Kind S) (layers : Layers S) where
   -- its bytes
   abbrev pub printed : (S → List ℕ) → List ℕ → State S → List ℕ
   printed text b s = text_of (shown text b s)
+
+  abbrev pub refused_by : Result Header ℕ → List ℕ → State S → List Told
+  refused_by (Err n) b s = []
+  refused_by (Ok header) b s = refusals (run K layers b s (count_in b)).0
+
+  -- what the faults of its refused events tell, where an event is reached
+  abbrev pub refused : List ℕ → State S → List Told
+  refused b s = refused_by (opening b) b s
 
   abbrev pub left_by : Result Header ℕ → List ℕ → State S → State S
   left_by (Err n) b s = s

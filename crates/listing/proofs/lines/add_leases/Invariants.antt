@@ -1,4 +1,4 @@
-use Rattle.std.proofs.Common.{◌≡◌, ◌++◌, ℕ, List, Ok, Result, vec_capacity}
+use Rattle.std.proofs.Common.{◌≡◌, ◌++◌, ℕ, List, Ok, vec_capacity}
 use Rattle.listing.specs.Adds.{Adds}
 use Rattle.listing.specs.Shown.{shown_leases, lease_lines}
 use Rattle.listing.proofs.Adding.{lines_from}

@@ -1,4 +1,4 @@
-use Rattle.std.proofs.Common.{◌≡◌, ◌++◌, ℕ, List, Ok, Result, drop, take, map, vec_capacity}
+use Rattle.std.proofs.Common.{◌≡◌, ◌++◌, ℕ, List, Ok, drop, take, map, vec_capacity}
 use Rattle.std.specs.List.{AllByRecursion}
 use Rattle.replay.specs.Told.{told}
 use Rattle.listing.specs.Adds.{Adds}
