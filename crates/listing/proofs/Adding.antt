@@ -1,8 +1,8 @@
 -- Lines added to some bytes.
-use Rattle.std.proofs.Common.{◌≡◌, ℕ, zero, suc, ◌+◌, ◌<◌, ◌≤◌, List, [], ◌∷◌, ◌++◌, length, take, drop, flat_map, slice_get, Bool, true, Some, Option, Ok, Err, Result, is_ok, IsOk, OnOk, nat_le, if◌then◌else◌, refl, sym, ap, ap₂, ◌∙◌, subst, arith, le_of_suc-le-suc}
-use Rattle.std.specs.Option.{option_map}
+use Rattle.std.proofs.Common.{◌≡◌, ℕ, zero, suc, ◌+◌, ◌<◌, ◌≤◌, List, [], ◌∷◌, ◌++◌, length, map, take, drop, get_or, slice_get, Bool, true, Some, Option, Ok, Err, Result, IsOk, nat_le, if◌then◌else◌, refl, sym, ap, ap₂, ◌∙◌, subst, arith, le_of_suc-le-suc}
+use Rattle.std.specs.List.{AllByRecursion}
+use Rattle.std.specs.Option.{option_map, unwrap_or}
 use Rattle.std.proofs.lemmas.Bool.{le-leb}
-use Rattle.std.proofs.lemmas.List.{append_assoc}
 use mathlib.Core.List.{Memᴰ}
 use Rattle.shares.specs.Kind.{Kind}
 use Rattle.lending.specs.declared.lease.Lease.{Lease}
@@ -12,7 +12,10 @@ use Rattle.lending.specs.Outcome.Answer.{number}
 use Rattle.printout.specs.declared.reason.LineReason.{LineReason}
 use Rattle.printout.specs.Answers.{told_line, answer_of, space_after}
 use Rattle.printout.specs.Lines.{line_at, lease_line, LinesAreShort}
-use Rattle.listing.specs.Printouts.{added}
+use Rattle.replay.specs.declared.fault.Fault.{Fault}
+use Rattle.replay.specs.Told.{told}
+use Rattle.listing.specs.Readable.{ReadableTold}
+use Rattle.listing.specs.Shown.{line_of, refusal_lines, shown_lease, lease_lines}
 
 module _ {A : Type 0} where
   -- what is at a position within a list
@@ -62,14 +65,6 @@ module _ {S : Type 0} (K : Kind S) (text : S → List ℕ) where
       let line = lease_line K text s.core.roll x.0 in
       line_fits line space (short x.0 x.2) size r (e ∙ ap (λ (o : Option (Lease S)). answer_of (option_map (lease_line K text s.core.roll) o) space) x.1)
 
-  -- the lines so far and those to come are all of them
-  pub one_more : (roll : List (Lease S)) (i : ℕ) → i < length roll → (before after : List ℕ) → added (line_at K text roll i) before after → after ++ flat_map (lease_line K text roll) (drop (i + 1) roll) ≡ before ++ flat_map (lease_line K text roll) (drop i roll)
-  one_more roll i l before after a =
-      let x = drop_at roll i l in
-      let line = lease_line K text roll x.0 in
-      let b : after ≡ before ++ line = subst (λ (o : Option (Lease S)). added (option_map (lease_line K text roll) o) before after) x.1 a in
-      ap (λ (xs : List ℕ). xs ++ flat_map (lease_line K text roll) (drop (i + 1) roll)) b ∙ append_assoc before line (flat_map (lease_line K text roll) (drop (i + 1) roll)) ∙ ap (λ (ls : List (Lease S)). before ++ flat_map (lease_line K text roll) ls) (sym x.2)
-
 -- what a line call left at the front of its space
 pub placed : (line space after : List ℕ) (r : Result ℕ LineReason) (n : ℕ) → length line ≤ 219 → length space ≡ 219 → told_line r ≡ answer_of (Some line) space → after ≡ space_after (Some line) space → r ≡ Ok n → take n after ≡ line
 placed line space after r n few size a b c =
@@ -83,7 +78,40 @@ placed line space after r n few size a b c =
     front [] ys = refl
     front (x ∷ xs) ys = ap (λ (r : List ℕ). x ∷ r) (front xs ys)
 
--- what was added, if memory was there
-pub on_ok : {T E : Type 0} (r : Result T E) (new old slice line : List ℕ) → new ≡ (if is_ok r then old ++ slice else old) → slice ≡ line → OnOk r (new ≡ old ++ line)
-on_ok (Ok x) new old slice line e f = e ∙ ap (λ (xs : List ℕ). old ++ xs) f
-on_ok (Err x) new old slice line e f = tt
+module _ {S : Type 0} (K : Kind S) (text : S → List ℕ) (roll : List (Lease S)) where
+  -- the line at a position of the roll
+  abbrev pub line_there : ℕ → List ℕ
+  line_there i = unwrap_or (line_at K text roll i) []
+
+  -- the lines from a position on
+  abbrev pub lines_from : ℕ → List ℕ
+  lines_from i = lease_lines (map (shown_lease K text roll) (drop i roll))
+
+  -- of which that there is the first
+  pub first_line : (i : ℕ) → i < length roll → line_there i ++ lines_from (i + 1) ≡ lines_from i
+  first_line i l =
+      let x = drop_at roll i l in
+      ap (λ (o : Option (Lease S)). unwrap_or (option_map (lease_line K text roll) o) [] ++ lines_from (i + 1)) x.1 ∙ ap (λ (ls : List (Lease S)). lease_lines (map (shown_lease K text roll) ls)) (sym x.2)
+
+  pub no_lines : (i : ℕ) → length roll ≤ i → lines_from i ≡ []
+  no_lines i l = ap (λ (ls : List (Lease S)). lease_lines (map (shown_lease K text roll) ls)) (drop_none roll i l)
+
+  -- what a call for that line left at the front of its space
+  pub placed_there : (i : ℕ) → i < length roll → ((l : Lease S) → Memᴰ l roll → length (lease_line K text roll l) ≤ 219) → (space after : List ℕ) (r : Result ℕ LineReason) (n : ℕ) → length space ≡ 219 → r ≡ answer_of (line_at K text roll i) space → after ≡ space_after (line_at K text roll i) space → r ≡ Ok n → take n after ≡ line_there i
+  placed_there i l short space after r n size a b c =
+      let x = at roll i l in
+      let e = ap (option_map (lease_line K text roll)) x.1 in
+      placed (lease_line K text roll x.0) space after r n (short x.0 x.2) size (a ∙ ap (λ (o : Option (List ℕ)). answer_of o space) e) (b ∙ ap (λ (o : Option (List ℕ)). space_after o space) e) c
+      ∙ sym (ap (λ (o : Option (List ℕ)). unwrap_or o []) e)
+
+-- the line of a fault is the first of those to come
+pub first_refusal : (xs : List Fault) (i : ℕ) (d : Fault) → i < length xs → line_of (told (get_or xs i d)) ++ refusal_lines (map told (drop (i + 1) xs)) ≡ refusal_lines (map told (drop i xs))
+first_refusal [] i d l = absurd (omega arith)
+first_refusal (x ∷ xs) zero d l = refl
+first_refusal (x ∷ xs) (suc i) d l = let e : suc i + 1 ≡ suc (i + 1) = omega arith in ap (λ (j : ℕ). line_of (told (get_or xs i d)) ++ refusal_lines (map told (drop j (x ∷ xs)))) e ∙ first_refusal xs i d (le_of_suc-le-suc l)
+
+-- one fault more can be read back
+pub one_readable : (xs : List Fault) (i : ℕ) (d : Fault) → i < length xs → AllByRecursion ReadableTold (map told (take i xs)) → ReadableTold (told (get_or xs i d)) → AllByRecursion ReadableTold (map told (take (i + 1) xs))
+one_readable [] i d l p q = absurd (omega arith)
+one_readable (x ∷ xs) zero d l p q = (q, tt)
+one_readable (x ∷ xs) (suc i) d l p q = let e : suc i + 1 ≡ suc (i + 1) = omega arith in subst (λ (j : ℕ). AllByRecursion ReadableTold (map told (take j (x ∷ xs)))) (sym e) (p.0, one_readable xs i d (le_of_suc-le-suc l) p.1 q)

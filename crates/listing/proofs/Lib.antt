@@ -1,2 +1,7 @@
+mod Added
 mod Adding
+mod Backs
+mod Cuts
+mod Reading
+mod Unbroken
 mod Whole

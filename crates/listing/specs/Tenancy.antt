@@ -1,5 +1,5 @@
 -- The printout of a book over a new office of its own kind of share.
-use Rattle.std.specs.Prelude.{ℕ, List, [], ◌∷◌, Ok, Err, Result}
+use Rattle.std.specs.Prelude.{◌≡◌, ℕ, List, [], ◌∷◌, Ok, Err, Result}
 use Rattle.kinds.specs.declared.kind.KindOfShare.{KindOfShare}
 use Rattle.kinds.specs.declared.kind.KindOfShare.TheVariants.{Trees, Counting}
 use Rattle.trees.specs.Cells.{trees_kind, text_of_share}
@@ -12,9 +12,10 @@ use Rattle.term.specs.Means.{term_objects}
 use Rattle.chain.specs.Means.{chain_objects}
 use Rattle.book.specs.declared.header.Header.{Header}
 use Rattle.book.specs.Books.{opening, count_in}
-use Rattle.replay.specs.Told.{plain}
 use Rattle.replay.specs.Whole.{RunConserved}
-use Rattle.listing.specs.Printouts.{line_of, printed}
+use Rattle.listing.specs.Shown.{Shown, shown_unopened, text_of}
+use Rattle.listing.specs.Printouts.{shown}
+use Rattle.listing.specs.Readable.{IsReadable}
 
 module _ {S : Type 0} where
   -- the layers of a book's office, the outermost first
@@ -25,34 +26,42 @@ module _ {S : Type 0} where
   abbrev pub new_office : Header → State S
   new_office header = pile (layers header) (new_ledger 1024)
 
-  -- the printout over it
-  abbrev pub played_in : Header → Kind S → (S → List ℕ) → List ℕ → List ℕ
-  played_in header K text b = printed K (layers header) text b (new_office header)
+  -- what the printout over it shows
+  abbrev pub shown_in : Header → Kind S → (S → List ℕ) → List ℕ → Shown
+  shown_in header K text b = shown K (layers header) text b (new_office header)
 
   -- the lending promise of the events of a book, replayed over it
   abbrev pub ConservedIn : Header → Kind S → List ℕ → Type 0
   ConservedIn header K b = RunConserved K (layers header) b (new_office header) (count_in b)
 
 -- by the kind of share that the book names
-abbrev pub played_kind : KindOfShare → Header → List ℕ → List ℕ
-played_kind Trees header b = played_in header trees_kind text_of_share b
-played_kind Counting header b = played_in header counting_kind (λ s. text s.held) b
+abbrev pub shown_kind : KindOfShare → Header → List ℕ → Shown
+shown_kind Trees header b = shown_in header trees_kind text_of_share b
+shown_kind Counting header b = shown_in header counting_kind (λ s. text s.held) b
 
 abbrev pub ConservedKind : KindOfShare → Header → List ℕ → Type 0
 ConservedKind Trees header b = ConservedIn header trees_kind b
 ConservedKind Counting header b = ConservedIn header counting_kind b
 
-abbrev pub played_by : Result Header ℕ → List ℕ → List ℕ
-played_by (Err n) b = line_of (plain 0 n)
-played_by (Ok header) b = played_kind header.kind header b
+abbrev pub shown_by : Result Header ℕ → List ℕ → Shown
+shown_by (Err n) b = shown_unopened n
+shown_by (Ok header) b = shown_kind header.kind header b
 
 abbrev pub ConservedBy : Result Header ℕ → List ℕ → Type 0
 ConservedBy (Err n) b = Unit {0}
 ConservedBy (Ok header) b = ConservedKind header.kind header b
 
--- The printout of a book with these bytes.
+-- What the printout of a book with these bytes shows.
+abbrev pub shown_of : List ℕ → Shown
+shown_of b = shown_by (opening b) b
+
+-- its bytes
 abbrev pub played : List ℕ → List ℕ
-played b = played_by (opening b) b
+played b = text_of (shown_of b)
+
+-- Two books whose printouts are the same bytes show the same, and may be of different kinds.
+abbrev pub OnePrintout : Type 0
+OnePrintout = (a b : List ℕ) → IsReadable (shown_of a) → IsReadable (shown_of b) → played a ≡ played b → shown_of a ≡ shown_of b
 
 -- The lending promise of its events, if it opens.
 abbrev pub PlayedConserved : List ℕ → Type 0

@@ -1,8 +1,12 @@
 // Lines of a printout, each added to some bytes.
-ghost use Rattle.std.specs.Prelude.{◌≡◌, ◌<◌, ◌++◌, length, map, OnOk};
+ghost use Rattle.std.specs.Prelude.{◌≡◌, ◌<◌, [], length, map, OnOk, vec_capacity};
+ghost use Rattle.std.specs.List.{AllByRecursion};
+ghost use Rattle.std.specs.Option.{unwrap_or};
 ghost use Rattle.printout.specs.Lines.{line_at, total_line};
 ghost use Rattle.replay.specs.Told.{told};
-ghost use Rattle.listing.specs.Printouts.{line_of, lease_lines, refusal_lines, totals_of, added};
+ghost use Rattle.listing.specs.Adds.{Adds};
+ghost use Rattle.listing.specs.Readable.{ReadableTold, ReadableTotals};
+ghost use Rattle.listing.specs.Shown.{line_of, refusal_lines, shown_leases, lease_lines, totals_of};
 
 use calls::Tallies;
 use desk::{count, issued};
@@ -14,7 +18,8 @@ use std::alloc::AllocError;
 
 // The line of a refused event.
 pub(crate) fn add_refusal(out: &mut Vec<u8>, fault: Fault) -> Result<(), AllocError>
-    ensures { OnOk result (out.new.items ≡ out.old.items ++ line_of (told fault)) }
+    ensures adds { Adds out.old.items (vec_capacity out.old) (line_of (told fault)) result out.new.items (vec_capacity out.new) }
+    ensures readable { ReadableTold (told fault) }
 {
     let mut space = [0; 219];
     let length = refusal_line(
@@ -29,7 +34,8 @@ pub(crate) fn add_refusal(out: &mut Vec<u8>, fault: Fault) -> Result<(), AllocEr
 
 // The lines of refused events.
 pub(crate) fn add_refusals(out: &mut Vec<u8>, faults: &[Fault]) -> Result<(), AllocError>
-    ensures { OnOk result (out.new.items ≡ out.old.items ++ refusal_lines (map told faults.now)) }
+    ensures adds { Adds out.old.items (vec_capacity out.old) (refusal_lines (map told faults.now)) result out.new.items (vec_capacity out.new) }
+    ensures readable { OnOk result (AllByRecursion ReadableTold (map told faults.now)) }
 {
     for fault in faults {
         add_refusal(out, *fault)?;
@@ -41,7 +47,7 @@ pub(crate) fn add_refusals(out: &mut Vec<u8>, faults: &[Fault]) -> Result<(), Al
 pub(crate) fn add_leases<O: Office>(out: &mut Vec<u8>, office: &O) -> Result<(), AllocError>
 where
     O::Kind: Printed,
-    ensures { OnOk result (out.new.items ≡ out.old.items ++ lease_lines O.Kind.Share.kind O.Kind.Printed.text (O.Office.meaning office.now).core.roll) }
+    ensures { Adds out.old.items (vec_capacity out.old) (lease_lines (shown_leases O.Kind.Share.kind O.Kind.Printed.text (O.Office.meaning office.now).core.roll)) result out.new.items (vec_capacity out.new) }
 {
     for position in 0..count(office) {
         add_lease(out, office, position)?;
@@ -55,7 +61,7 @@ fn add_lease<O: Office>(out: &mut Vec<u8>, office: &O, position: usize) -> Resul
 where
     O::Kind: Printed,
     requires { position < length (O.Office.meaning office.now).core.roll }
-    ensures { OnOk result (added (line_at O.Kind.Share.kind O.Kind.Printed.text (O.Office.meaning office.now).core.roll position) out.old.items out.new.items) }
+    ensures { Adds out.old.items (vec_capacity out.old) (unwrap_or (line_at O.Kind.Share.kind O.Kind.Printed.text (O.Office.meaning office.now).core.roll position) []) result out.new.items (vec_capacity out.new) }
 {
     let mut space = [0; 219];
     let length = lease_line(office, position, &mut space).unwrap();
@@ -68,13 +74,15 @@ pub(crate) fn add_totals<O: Office>(
     office: &O,
     tallies: Tallies,
 ) -> Result<(), AllocError>
-    ensures { OnOk result (out.new.items ≡ out.old.items ++ total_line (totals_of tallies (O.Office.meaning office.now))) }
+    ensures adds { Adds out.old.items (vec_capacity out.old) (total_line (totals_of tallies (O.Office.meaning office.now))) result out.new.items (vec_capacity out.new) }
+    ensures readable { ReadableTotals (totals_of tallies (O.Office.meaning office.now)) }
 {
     add_total_line(out, totals_of(office, tallies))
 }
 
 fn add_total_line(out: &mut Vec<u8>, totals: Totals) -> Result<(), AllocError>
-    ensures { OnOk result (out.new.items ≡ out.old.items ++ total_line totals) }
+    ensures adds { Adds out.old.items (vec_capacity out.old) (total_line totals) result out.new.items (vec_capacity out.new) }
+    ensures readable { ReadableTotals totals }
 {
     let mut space = [0; 219];
     let length = total_line(totals, &mut space).unwrap();

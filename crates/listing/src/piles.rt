@@ -3,12 +3,11 @@ ghost use Rattle.lending.specs.Layers.{layered, pile};
 ghost use Rattle.quota.specs.Means.{quota_objects};
 ghost use Rattle.term.specs.Means.{term_objects};
 ghost use Rattle.chain.specs.Means.{chain_objects};
-ghost use Rattle.book.specs.Books.{count_in};
 ghost use Rattle.book.specs.Told.{number_of};
-ghost use Rattle.replay.specs.Told.{plain};
-ghost use Rattle.replay.specs.Whole.{RunConserved};
-ghost use Rattle.listing.specs.Printouts.{line_of, printed};
-ghost use Rattle.listing.specs.Tenancy.{layers, played, played_in, ConservedIn, PlayedConserved};
+ghost use Rattle.listing.specs.Printouts.{shown};
+ghost use Rattle.listing.specs.Readable.{NoLineBreak, IsReadable};
+ghost use Rattle.listing.specs.Shown.{shown_unopened, text_of};
+ghost use Rattle.listing.specs.Tenancy.{layers, shown_in, shown_of, played, OnePrintout, ConservedIn, PlayedConserved};
 
 use crate::books::print_book;
 use crate::lines::add_refusal;
@@ -17,7 +16,7 @@ use chain::Chain;
 use kinds::{of_kind, *};
 use layer::Layer;
 use ledger::Ledger;
-use lending::{Lease, MOST_ROWS};
+use lending::{Lease, MOST_ROWS, lending_is_conserved};
 use office::{Office, Piled};
 use quota::Quota;
 use shares::Printed;
@@ -28,9 +27,12 @@ use term::Term;
 const QUOTA: u16 = 64;
 
 // The printout of a book, replayed in a new office of its own kind of share: Quota on Term on Chain on a ledger.
+#[tactic(auto, using(crate::proofs::Backs::one_printout, crate::proofs::Unbroken::trees_unbroken, crate::proofs::Unbroken::counting_unbroken))]
 pub fn tenancy(alloc: Global, book: &[u8]) -> Result<Vec<u8>, AllocError>
     ensures prints { IfOk result (λ printout. printout.items ≡ played book.now) }
-    ensures conserved { OnOk result (PlayedConserved book.now) }
+    ensures readable { OnOk result (IsReadable (shown_of book.now)) }
+    ensures one_printout { OnePrintout }
+    ensures conserved { PlayedConserved book.now }
 {
     match Book::open(book) {
         Ok(Book { header, .. }) => of_kind!(header.kind, print_new(alloc, header, book)),
@@ -40,7 +42,8 @@ pub fn tenancy(alloc: Global, book: &[u8]) -> Result<Vec<u8>, AllocError>
 
 // The printout of a book that doesn't open.
 fn print_unopened(alloc: Global, reason: BookReason) -> Result<Vec<u8>, AllocError>
-    ensures { IfOk result (λ printout. printout.items ≡ line_of (plain 0 (number_of reason))) }
+    ensures prints { IfOk result (λ printout. printout.items ≡ text_of (shown_unopened (number_of reason))) }
+    ensures readable { OnOk result (IsReadable (shown_unopened (number_of reason))) }
 {
     let mut out = Vec::new(alloc);
     add_refusal(&mut out, reason.into())?;
@@ -49,9 +52,11 @@ fn print_unopened(alloc: Global, reason: BookReason) -> Result<Vec<u8>, AllocErr
 
 // The printout over a new ledger.
 fn print_new<S: Printed>(alloc: Global, header: Header, book: &[u8]) -> Result<Vec<u8>, AllocError>
-    ensures prints { IfOk result (λ printout. printout.items ≡ played_in header S.kind S.text book.now) }
-    ensures conserved { OnOk result (ConservedIn header S.kind book.now) }
+    ensures prints { IfOk result (λ printout. printout.items ≡ text_of (shown_in header S.kind S.text book.now)) }
+    ensures readable { NoLineBreak S.text → OnOk result (IsReadable (shown_in header S.kind S.text book.now)) }
+    ensures conserved { ConservedIn header S.kind book.now }
 {
+    lending_is_conserved::<S>();
     let free = Lease {
         number: 0,
         resource: 0,
@@ -73,12 +78,13 @@ fn print_over<O: Piled + Drop>(
 ) -> Result<Vec<u8>, AllocError>
 where
     O::Kind: Printed,
-    ensures prints { IfOk result (λ printout. printout.items ≡ printed O.Kind.Share.kind (layers header ++ O.Office.layers below) O.Kind.Printed.text book.now (pile (layers header) (O.Office.meaning below))) }
-    ensures conserved { OnOk result (RunConserved O.Kind.Share.kind (layers header ++ O.Office.layers below) book.now (pile (layers header) (O.Office.meaning below)) (count_in book.now)) }
+    ensures prints { IfOk result (λ printout. printout.items ≡ text_of (shown O.Kind.Share.kind (layers header ++ O.Office.layers below) O.Kind.Printed.text book.now (pile (layers header) (O.Office.meaning below)))) }
+    ensures readable { NoLineBreak O.Kind.Printed.text → OnOk result (IsReadable (shown O.Kind.Share.kind (layers header ++ O.Office.layers below) O.Kind.Printed.text book.now (pile (layers header) (O.Office.meaning below)))) }
 {
     let mut office = with_quota(with_term(with_chain(below, header), header));
+    let mut faults = Vec::new(alloc);
     let mut out = Vec::new(alloc);
-    print_book(alloc, &mut office, book, &mut out)?;
+    print_book(&mut office, book, &mut faults, &mut out)?;
     Ok(out)
 }
 

@@ -1,10 +1,13 @@
 use Rattle.std.proofs.Common.{replicate, take, arith}
 use Rattle.printout.specs.Lines.{total_line}
-use Rattle.listing.proofs.Adding.{placed, on_ok}
+use Rattle.listing.proofs.Adding.{placed}
+use Rattle.listing.proofs.Added.{adds_slice}
 use Rattle.listing.proofs.lines.add_total_line.Goals as goal
 
-pub returns : goal.returns
-returns c =
+pub returns-clause-adds : goal.returns-clause-adds
+returns-clause-adds c =
+    let e = c.extend_from_slice.ensures in
+    let n = c.unwrap-length.result in
     let line = total_line c.args.totals in
-    on_ok c.extend_from_slice.result c.extend_from_slice.new.self.items c.args.out.now.items (take c.unwrap-length.result c.total_line.new.space) line c.extend_from_slice.ensures.items
-    (placed line (replicate 219 0) c.total_line.new.space c.total_line.result c.unwrap-length.result c.total_line.ensures.short (omega arith) c.total_line.ensures.answers c.total_line.ensures.leaves c.unwrap-length.ensures)
+    adds_slice c.args.out.now.items c.extend_from_slice.new.self.items (take n c.total_line.new.space) line c.args.out.now.len c.args.out.now.cap c.extend_from_slice.new.self.cap c.extend_from_slice.result c.args.out.now.ok.0 e.items e.full e.capacity
+    (placed line (replicate 219 0) c.total_line.new.space c.total_line.result n c.total_line.ensures.short (omega arith) c.total_line.ensures.answers c.total_line.ensures.leaves c.unwrap-length.ensures)
