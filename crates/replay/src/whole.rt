@@ -52,7 +52,7 @@ fn read_book<O: Office>(
     faults: &mut Vec<Fault>,
 ) -> Result<Result<Finished, Fault>, AllocError>
     ensures opens { IfOk result (λ outcome. told_of outcome ≡ unopened (opening book.now)) }
-    ensures replays { IfOk result (λ outcome. IfOk outcome (λ finished. Replayed O.Kind.Share.kind (Stands O.Office.meaning O.Office.layers (O.Office.layers office.old)) book.now (O.Office.meaning office.old) (count_in book.now) (drop (vec_len faults.old) faults.new.items) finished.closed (O.Office.meaning office.new))) }
+    ensures replays { IfOk result (λ outcome. IfOk outcome (λ finished. Replayed O.Kind.Share.kind (SomeOffice O.Office.meaning O.Office.layers (O.Office.layers office.old)) book.now (O.Office.meaning office.old) (count_in book.now) (drop (vec_len faults.old) faults.new.items) finished.closed (O.Office.meaning office.new))) }
     ensures kept { take (vec_len faults.old) faults.new.items ≡ faults.old.items }
     ensures same { IfOk result (λ outcome. OnErr outcome ((office.new ≡ office.old) × (faults.new ≡ faults.old))) }
     ensures no_memory { OnErr result ((office.new ≡ office.old) × (faults.new.items ≡ faults.old.items) × (vec_capacity faults.new ≡ vec_capacity faults.old)) }

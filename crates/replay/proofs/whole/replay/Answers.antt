@@ -1,6 +1,6 @@
 use Rattle.std.proofs.Common.{refl, drop, vec_len}
 use Rattle.book.specs.Books.{count_in}
-use Rattle.calls.specs.Listed.{Stands}
+use Rattle.calls.specs.Listed.{SomeOffice}
 use Rattle.replay.specs.Whole.{Replay}
 use Rattle.replay.specs.Came.{Replayed}
 use Rattle.replay.proofs.Running.{both_ok, run_conserved, one_replay, replayed_is_run}
@@ -21,7 +21,7 @@ returns-clause-runs g c = λ follow.
     let t = g.O.Office.meaning c.read_book.new.office in
     let faults = drop (vec_len c.args.faults.now) c.read_book.new.faults.items in
     both_ok c.read_book.result
-    (λ finished. Replayed K (Stands g.O.Office.meaning g.O.Office.layers ls) b s (count_in b) faults finished.closed t)
+    (λ finished. Replayed K (SomeOffice g.O.Office.meaning g.O.Office.layers ls) b s (count_in b) faults finished.closed t)
     (λ finished. Replay K ls b s (count_in b) faults finished.closed t)
     (λ finished. replayed_is_run K g.O.Office.meaning g.O.Office.layers ls follow b s (count_in b) faults finished.closed t (c.read_book.new.office, refl, c.read_book.ensures.layers))
     c.read_book.ensures.replays
