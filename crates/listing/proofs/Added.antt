@@ -68,3 +68,7 @@ stopped before mid after so_far text rest left whole room room_mid room_after x 
 pub adds_room : {A E : Type 0} (before after text : List ℕ) (len room room_after : ℕ) (r : Result A E) → Adds before room text r after room_after → len ≡ length before → len + length text ≤ room → IsOk r
 adds_room before after text len room room_after (Ok x) p l fits = refl
 adds_room before after text len room room_after (Err x) p l fits = absurd (let f = p.full in omega (arith, f, l, fits))
+
+-- before the first text all of them are to come
+pub adds_first : (before : List ℕ) (room : ℕ) (whole : List ℕ) → (so_far : List ℕ) × Adds before room so_far {A = Unit {0}} {E = Unit {0}} (Ok tt) before room × (so_far ++ whole ≡ whole)
+adds_first before room whole = ([], adds_none before room tt, refl)

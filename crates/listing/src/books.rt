@@ -49,6 +49,34 @@ where
     ensures always { LendingConserved O.Kind.Share.kind }
 {
     lending_is_conserved::<O::Kind>();
+    replay_and_print(office, book, faults, out)
+}
+
+// The same, by itself so that a wrong call of it is refused where it stands.
+fn replay_and_print<O: Piled>(
+    office: &mut O,
+    book: &[u8],
+    faults: &mut Vec<Fault>,
+    out: &mut Vec<u8>,
+) -> Result<(), AllocError>
+where
+    O::Kind: Printed,
+    ensures prints { OnOk result (out.new.items ≡ out.old.items ++ printed O.Kind.Share.kind (O.Office.layers office.old) O.Kind.Printed.text book.now (O.Office.meaning office.old)) }
+    ensures readable { NoLineBreak O.Kind.Printed.text → OnOk result (IsReadable (shown O.Kind.Share.kind (O.Office.layers office.old) O.Kind.Printed.text book.now (O.Office.meaning office.old))) }
+    ensures leaves { OnOk result (O.Office.meaning office.new ≡ left O.Kind.Share.kind (O.Office.layers office.old) book.now (O.Office.meaning office.old)) }
+    ensures faults { OnOk result (map told (drop (vec_len faults.old) faults.new.items) ≡ refused O.Kind.Share.kind (O.Office.layers office.old) book.now (O.Office.meaning office.old)) }
+    ensures kept { take (vec_len faults.old) faults.new.items ≡ faults.old.items }
+    ensures begins { Begins out.old.items out.new.items }
+    ensures unopened { IsErr (opening book.now) → (office.new ≡ office.old) × (faults.new ≡ faults.old) }
+    ensures idle { AllQuiet O.Kind.Share.kind (O.Office.meaning office.old) book.now (count_in book.now) → office.new ≡ office.old }
+    ensures no_memory { OnErr result ((office.new ≡ office.old) ⊎ (O.Office.meaning office.new ≡ left O.Kind.Share.kind (O.Office.layers office.old) book.now (O.Office.meaning office.old))) }
+    ensures replayed { vec_len faults.old + count_in book.now ≤ vec_capacity faults.old → O.Office.meaning office.new ≡ left O.Kind.Share.kind (O.Office.layers office.old) book.now (O.Office.meaning office.old) }
+    ensures room { vec_len faults.old + count_in book.now ≤ vec_capacity faults.old → vec_len out.old + length (printed O.Kind.Share.kind (O.Office.layers office.old) O.Kind.Printed.text book.now (O.Office.meaning office.old)) ≤ vec_capacity out.old → IsOk result }
+    ensures conserved { RunConserved O.Kind.Share.kind (O.Office.layers office.old) book.now (O.Office.meaning office.old) (count_in book.now) }
+    ensures unused { unused (O.Office.rows office.new) ≡ unused (O.Office.rows office.old) }
+    ensures layers { O.Office.layers office.new ≡ O.Office.layers office.old }
+    ensures lent { O.Office.lent office.new ≡ O.Office.lent office.old }
+{
     let earlier = faults.len();
     match replay(office, book, faults)? {
         Ok(finished) => add_lines(out, office, &faults[earlier..], finished.tallies()),

@@ -2,7 +2,7 @@
 ghost use Rattle.std.specs.Prelude.{◌≡◌, ◌<◌, [], length, map, OnOk, vec_capacity};
 ghost use Rattle.std.specs.List.{AllByRecursion};
 ghost use Rattle.std.specs.Option.{unwrap_or};
-ghost use Rattle.printout.specs.Lines.{line_at, total_line};
+ghost use Rattle.printout.specs.Lines.{line_at, refusal_line, total_line};
 ghost use Rattle.replay.specs.Told.{told};
 ghost use Rattle.listing.specs.Adds.{Adds};
 ghost use Rattle.listing.specs.Readable.{ReadableTold, ReadableTotals};
@@ -21,18 +21,25 @@ pub(crate) fn add_refusal(out: &mut Vec<u8>, fault: Fault) -> Result<(), AllocEr
     ensures adds { Adds out.old.items (vec_capacity out.old) (line_of (told fault)) result out.new.items (vec_capacity out.new) }
     ensures readable { ReadableTold (told fault) }
 {
+    add_refusal_line(out, usize::from(fault.event), fault.number(), fault.level())
+}
+
+// The same, by its place in the book, the number of the refusal, and its level if it has one.
+fn add_refusal_line(
+    out: &mut Vec<u8>,
+    event: usize,
+    number: u8,
+    level: Option<u8>,
+) -> Result<(), AllocError>
+    ensures { Adds out.old.items (vec_capacity out.old) (refusal_line event number level) result out.new.items (vec_capacity out.new) }
+{
     let mut space = [0; 219];
-    let length = refusal_line(
-        usize::from(fault.event),
-        fault.number(),
-        fault.level(),
-        &mut space,
-    )
-    .unwrap();
+    let length = refusal_line(event, number, level, &mut space).unwrap();
     out.extend_from_slice(&space[..length])
 }
 
 // The lines of refused events.
+#[tactic(auto, using(crate::proofs::Added::adds_first))]
 pub(crate) fn add_refusals(out: &mut Vec<u8>, faults: &[Fault]) -> Result<(), AllocError>
     ensures adds { Adds out.old.items (vec_capacity out.old) (refusal_lines (map told faults.now)) result out.new.items (vec_capacity out.new) }
     ensures readable { OnOk result (AllByRecursion ReadableTold (map told faults.now)) }
@@ -44,6 +51,7 @@ pub(crate) fn add_refusals(out: &mut Vec<u8>, faults: &[Fault]) -> Result<(), Al
 }
 
 // The lines of the live leases.
+#[tactic(auto, using(crate::proofs::Added::adds_first))]
 pub(crate) fn add_leases<O: Office>(out: &mut Vec<u8>, office: &O) -> Result<(), AllocError>
 where
     O::Kind: Printed,

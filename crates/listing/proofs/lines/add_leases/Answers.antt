@@ -1,11 +1,8 @@
-use Rattle.std.proofs.Common.{◌≡◌, ◌+◌, ◌<◌, [], length, vec_capacity, refl, arith}
+use Rattle.std.proofs.Common.{◌≡◌, ◌+◌, ◌<◌, length, vec_capacity, arith}
 use Rattle.listing.specs.Shown.{shown_leases, lease_lines}
 use Rattle.listing.proofs.Adding.{one_answer, line_there, lines_from, first_line}
-use Rattle.listing.proofs.Added.{adds_none, more_after, stopped}
+use Rattle.listing.proofs.Added.{more_after, stopped}
 use Rattle.listing.proofs.lines.add_leases.Goals as goal
-
-pub loop-position-init : goal.loop-position-init
-loop-position-init g c = ([], adds_none c.args.out.now.items (vec_capacity c.args.out.now) tt, refl)
 
 pub returns-in_err-add_lease : goal.returns-in_err-add_lease
 returns-in_err-add_lease g c =

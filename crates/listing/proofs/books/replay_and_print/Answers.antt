@@ -10,7 +10,7 @@ use Rattle.listing.proofs.Added.{adds_room}
 use Rattle.listing.proofs.Adding.{drop_none}
 use Rattle.listing.proofs.Reading.{on_ok}
 use Rattle.listing.proofs.Whole.{replay_shows, not_refused, unopened_refuses}
-use Rattle.listing.proofs.books.print_book.Goals as goal
+use Rattle.listing.proofs.books.replay_and_print.Goals as goal
 
 pub returns-in-Ok-clause-prints : goal.returns-in-Ok-clause-prints
 returns-in-Ok-clause-prints g c =
