@@ -97,7 +97,7 @@ module _ {S : Type 0} (K : Kind S) (text : S → List ℕ) (roll : List (Lease S
   no_lines i l = ap (λ (ls : List (Lease S)). lease_lines (map (shown_lease K text roll) ls)) (drop_none roll i l)
 
   -- what a call for that line left at the front of its space
-  pub placed_there : (i : ℕ) → i < length roll → ((l : Lease S) → Memᴰ l roll → length (lease_line K text roll l) ≤ 219) → (space after : List ℕ) (r : Result ℕ LineReason) (n : ℕ) → length space ≡ 219 → r ≡ answer_of (line_at K text roll i) space → after ≡ space_after (line_at K text roll i) space → r ≡ Ok n → take n after ≡ line_there i
+  pub placed_there : (i : ℕ) → i < length roll → ((l : Lease S) → Memᴰ l roll → length (lease_line K text roll l) ≤ 219) → (space after : List ℕ) (r : Result ℕ LineReason) (n : ℕ) → length space ≡ 219 → told_line r ≡ answer_of (line_at K text roll i) space → after ≡ space_after (line_at K text roll i) space → r ≡ Ok n → take n after ≡ line_there i
   placed_there i l short space after r n size a b c =
       let x = at roll i l in
       let e = ap (option_map (lease_line K text roll)) x.1 in
