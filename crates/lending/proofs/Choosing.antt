@@ -1,8 +1,7 @@
 -- Calls and lists of calls have one result.
-use Rattle.std.proofs.Common.{◌≡◌, ℕ, true, List, map, sym, ap, ◌∙◌, arith}
+use Rattle.std.proofs.Common.{◌≡◌, ℕ, true, List, sym, ap, ◌∙◌, arith}
 use Rattle.shares.specs.Kind.{Kind}
 use Rattle.lending.specs.Office.{State}
-use Rattle.lending.specs.Layers.{Layers, Follow}
 use Rattle.lending.specs.Outcome.{Answer, Outcome}
 use Rattle.lending.specs.Outcome.Outcome.{refuses, tells, grants}
 use Rattle.lending.specs.Perform.{perform, Ends}

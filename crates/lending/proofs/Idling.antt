@@ -7,8 +7,8 @@ use Rattle.lending.specs.declared.refusal.Refusal as code
 use Rattle.shares.specs.Kind.{Kind}
 use Rattle.lending.specs.Office.{State, Refusal, issue, with_roll, with_today}
 use Rattle.lending.specs.Office.Request.{opening, delegating, assigning}
-use Rattle.lending.specs.Outcome.{Answer, Outcome, refused_at, unless, unless_objected, need_live, need_halves, and_then, answering}
-use Rattle.lending.specs.Outcome.Answer.{done, number, lease, share, refused}
+use Rattle.lending.specs.Outcome.{Answer, Outcome, refused_at, unless, unless_objected, need_live, need_halves, and_then}
+use Rattle.lending.specs.Outcome.Answer.{done, number}
 use Rattle.lending.specs.Outcome.Call.{open_resource, delegate, yield, merge, assign, new_day, recall, day}
 use Rattle.lending.specs.Outcome.Outcome.{refuses, tells, grants}
 use Rattle.lending.specs.Limits.{within_range}

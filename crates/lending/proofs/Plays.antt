@@ -1,6 +1,6 @@
 -- What is played through the definitions is a list of calls; and where objections follow from layers, a list of calls is what
 -- is played.
-use Rattle.std.proofs.Common.{◌≡◌, List, [], ◌∷◌, map, refl, sym, ap, ap₂, ◌∙◌, subst}
+use Rattle.std.proofs.Common.{◌≡◌, List, [], ◌∷◌, map, refl, ap, ap₂, ◌∙◌, subst}
 use Rattle.shares.specs.Kind.{Kind}
 use Rattle.lending.specs.Office.{Core, State}
 use Rattle.lending.specs.Layers.{Layers, Follow, objections}
