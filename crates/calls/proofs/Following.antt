@@ -11,18 +11,19 @@ use Rattle.calls.specs.declared.list.Tallies.{Tallies}
 use Rattle.calls.specs.Listed.{Made, SomeOffice, ListMade}
 use Rattle.calls.specs.Played.{Played, ListPlayed}
 
-module _ {O S : Type 0} (K : Kind S) (means : O → State S) (layers : O → Layers S) (ls : Layers S) (follow : (o : O) → Follow (layers o) (means o)) where
+module _ {O S : Type 0} (means : O → State S) (layers : O → Layers S) (ls : Layers S) (follow : (o : O) → Follow (layers o) (means o)) where
   -- a state that an office with these layers stands for follows from them
-  follows : (s : State S) → SomeOffice means layers ls s → Follow ls s
+  pub follows : (s : State S) → SomeOffice means layers ls s → Follow ls s
   follows s h = subst (λ (x : State S). Follow ls x) h.1 (subst (λ (l : Layers S). Follow l (means h.0)) h.2 (follow h.0))
 
-  each_follows : (ms : List (Moment S)) → EachCameTo (SomeOffice means layers ls) ms → EachCameTo (Follow ls) ms
+  pub each_follows : (ms : List (Moment S)) → EachCameTo (SomeOffice means layers ls) ms → EachCameTo (Follow ls) ms
   each_follows [] each = tt
   each_follows (m ∷ ms) each = (follows m.before each.0, each_follows ms each.1)
 
+module _ {O S : Type 0} (K : Kind S) (means : O → State S) (layers : O → Layers S) (ls : Layers S) (follow : (o : O) → Follow (layers o) (means o)) where
   pub made_is_played : (s : State S) (calls : List Call) (tallies : Tallies) (t : State S) → Follow ls t → Made K (SomeOffice means layers ls) s calls tallies t → Played K ls s calls tallies t
   made_is_played s calls tallies t f made =
-      let e = worked_list ls K s made.history t made.leads (each_follows made.history made.stood) f ∙ ap (play K ls s) made.in_order in
+      let e = worked_list ls K s made.history t made.leads (each_follows means layers ls follow made.history made.stood) f ∙ ap (play K ls s) made.in_order in
       let ms = ap (λ (x : List (Moment S) × State S). x.0) e in
       record {
         leaves = ap (λ (x : List (Moment S) × State S). x.1) e;

@@ -1,7 +1,6 @@
 -- A call that is passed on, after which the office flips if it was granted.
-use Rattle.std.proofs.Common.{◌≡◌, ℕ, Bool, true, false, None, Ok, Err, Result, refl, sym, subst, ap, ◌∙◌, arith}
+use Rattle.std.proofs.Common.{◌≡◌, ℕ, Bool, true, false, None, Ok, Err, Result, refl, sym, subst, ◌∙◌, arith}
 use Rattle.std.specs.Prelude.{is_ok}
-use Rattle.std.specs.Result.{MatchResult, IsErrAnd}
 use Rattle.shares.specs.Kind.{Kind}
 use Rattle.lending.specs.declared.refusal.Refusal.{Refusal}
 use Rattle.lending.specs.Office.{State}
@@ -12,27 +11,14 @@ use Rattle.lending.specs.Outcome.Answer.{done, number}
 use Rattle.lending.specs.Outcome.Call.{open_resource, delegate, yield, merge, assign, new_day}
 use Rattle.lending.specs.Perform.{perform, Ends, Does}
 use Rattle.lending.specs.Idle.{idle}
-use Rattle.lending.specs.Layers.{Passes, layered, passed_up}
-use Rattle.lending.specs.Told.{raised, told, told_number}
+use Rattle.lending.specs.Layers.{Passes, layered}
+use Rattle.lending.specs.Told.{told, told_number}
 use Rattle.lending.proofs.Idling.{idle_open, idle_delegate, idle_yield, idle_merge, idle_assign, idle_day}
 use Rattle.lending.proofs.Layering.{layer_is_office}
+use Rattle.layer.proofs.Passing.{Raised, number_up, done_up}
 use Rattle.fickle.specs.Fickles.{shut, flip}
 
--- q is r, its refusal raised
-abbrev pub Raised : {T : Type 0} → Result T Refusal → Result T Refusal → Type 0
-Raised r q = MatchResult r (λ x. q ≡ Ok x) (λ f. IsErrAnd q (λ g. g ≡ raised f))
-
 module _ {S : Type 0} where
-  number_up : (r q : Result ℕ Refusal) → Raised r q → told_number {S = S} q ≡ passed_up (told_number r)
-  number_up (Ok n) q e = ap told_number e
-  number_up (Err f) (Ok n) e = absurd e
-  number_up (Err f) (Err g) e = ap (λ h. told_number (Err h)) e
-
-  done_up : (r q : Result (Unit {0}) Refusal) → Raised r q → told {S = S} q ≡ passed_up (told r)
-  done_up (Ok x) q e = ap told e
-  done_up (Err f) (Ok x) e = absurd e
-  done_up (Err f) (Err g) e = ap (λ h. told (Err h)) e
-
   -- a granted call leaves any state with the same core
   granted : (o : Outcome S) (s t v : State S) (a : Answer S) → (idle o ≡ true → ⊥) → v.core ≡ t.core → Ends o s a t → Ends o s a v
   granted (refuses r) s t v a not_idle e d = absurd (not_idle refl)

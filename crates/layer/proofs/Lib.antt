@@ -1,1 +1,1 @@
-mod Passing
+pub mod Passing

@@ -17,12 +17,12 @@ abbrev pub Raised : {T : Type 0} → Result T Refusal → Result T Refusal → T
 Raised r q = MatchResult r (λ x. q ≡ Ok x) (λ f. IsErrAnd q (λ g. g ≡ raised f))
 
 module _ {S : Type 0} where
-  number_up : (r q : Result ℕ Refusal) → Raised r q → told_number {S = S} q ≡ passed_up (told_number r)
+  pub number_up : (r q : Result ℕ Refusal) → Raised r q → told_number {S = S} q ≡ passed_up (told_number r)
   number_up (Ok n) q e = ap told_number e
   number_up (Err f) (Ok n) e = absurd e
   number_up (Err f) (Err g) e = ap (λ h. told_number (Err h)) e
 
-  done_up : (r q : Result (Unit {0}) Refusal) → Raised r q → told {S = S} q ≡ passed_up (told r)
+  pub done_up : (r q : Result (Unit {0}) Refusal) → Raised r q → told {S = S} q ≡ passed_up (told r)
   done_up (Ok x) q e = ap told e
   done_up (Err f) (Ok x) e = absurd e
   done_up (Err f) (Err g) e = ap (λ h. told (Err h)) e

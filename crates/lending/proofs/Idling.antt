@@ -45,7 +45,7 @@ module _ {S : Type 0} where
   acts_halves level None f h = acts_refused
   acts_halves level (Some p) f h = h p.0 p.1
 
-  acts_then : (o : Outcome S) (f : State S → Outcome S) → Acts o → ((t : State S) → Acts (f t)) → Acts (and_then o f)
+  pub acts_then : (o : Outcome S) (f : State S → Outcome S) → Acts o → ((t : State S) → Acts (f t)) → Acts (and_then o f)
   acts_then (refuses r) f a h = acts_refused
   acts_then (grants a t) f b h = h t
   acts_then (tells a) f b h = elim b [ ]
@@ -55,11 +55,11 @@ module _ {S : Type 0} where
     acts_yield s n = acts_live s.core.depth (find s.core.roll n) (λ l. unless s.core.depth ((lends s.core.roll n, 9) ∷ []) (grants done (given_back K s l)))
         (λ l. acts_unless s.core.depth ((lends s.core.roll n, 9) ∷ []) (grants done (given_back K s l)) acts_granted)
 
-    acts_yields : (s : State S) (ns : List ℕ) → Acts (yields K s ns)
+    pub acts_yields : (s : State S) (ns : List ℕ) → Acts (yields K s ns)
     acts_yields s [] = acts_granted
     acts_yields s (n ∷ ns) = acts_then (do_yield K s n) (λ t. yields K t ns) (acts_yield s n) (λ t. acts_yields t ns)
 
-    acts_day : (s : State S) (d : ℕ) → Acts (do_set_day s d)
+    pub acts_day : (s : State S) (d : ℕ) → Acts (do_set_day s d)
     acts_day s d = acts_unless s.core.depth ((bad_day s d, 13) ∷ (list_any (due_by d) s.core.roll, 14) ∷ []) (grants done (with_today d s)) acts_granted
 
     acts_open : (s : State S) (r h : ℕ) → Acts (do_open K s r h)

@@ -1,57 +1,37 @@
 -- What one call closes by its answer is bounded: its leases were live before it, and an office has few rows.
 use Rattle.std.proofs.Common.{ℕ, ◌+◌, ◌≤◌, Bool, true, false, cond, not, eqb, ◌||◌, List, [], ◌∷◌, length, arith}
-use Rattle.std.specs.List.{filter, list_any}
+use Rattle.std.specs.List.{filter}
 use Rattle.std.proofs.lemmas.List.{length-reverse, length-map}
 use Rattle.std.proofs.lemmas.List.Sums.{length-filter, count_by-le-length}
 use Rattle.shares.specs.Kind.{Kind}
 use Rattle.lending.specs.declared.lease.Lease.{Lease}
-use Rattle.lending.specs.Office.{State, with_today}
-use Rattle.lending.specs.Roll.{find, live, lends, family, under}
-use Rattle.lending.specs.Outcome.{Call, Answer, Outcome, unless, and_then, answering}
+use Rattle.lending.specs.Office.{State}
+use Rattle.lending.specs.Roll.{live, family, under}
+use Rattle.lending.specs.Outcome.{Call, Answer, Outcome, and_then, answering}
 use Rattle.lending.specs.Outcome.Call.{open_resource, delegate, yield, merge, assign, new_day, ask_count, ask_issued, ask_today, ask_lease_at, ask_lease, recall, day, standing, hand_in}
 use Rattle.lending.specs.Outcome.Answer.{done, number, lease, share, refused}
 use Rattle.lending.specs.Outcome.Outcome.{refuses, tells, grants}
-use Rattle.lending.specs.Calls.{do_yield, do_set_day, given_back, bad_day, due_by}
+use Rattle.lending.specs.Calls.{do_set_day, bad_day, due_by}
 use Rattle.lending.specs.Above.{yields, downward, recall_all}
 use Rattle.lending.specs.Perform.{perform, Ends, Does}
 use Rattle.lending.specs.History.{one_if_done, its_number}
-use Rattle.lending.proofs.Steps.{by_live, by_checks}
+use Rattle.lending.proofs.Idling.{Acts, acts_then, acts_yields, acts_day}
+use Rattle.lending.proofs.Steps.{by_checks}
 use Rattle.office.specs.Lawful.{Lawful}
 use Rattle.calls.specs.declared.list.Tallies.{Tallies}
 use Rattle.calls.specs.Listed.{all_closed, counted}
 use Rattle.replay.specs.Limits.{most_closed}
 
 module _ {S : Type 0} (K : Kind S) where
-  -- the call isn't a question
-  abbrev Acts : Outcome S → Type 0
-  Acts (refuses r) = Unit {0}
-  Acts (tells a) = ⊥
-  Acts (grants a u) = Unit {0}
-
   -- it answers a number of at most k, if it answers a number
   abbrev Most : ℕ → Outcome S → Type 0
   Most k (refuses r) = Unit {0}
   Most k (tells a) = its_number a ≤ k
   Most k (grants a u) = its_number a ≤ k
 
-  acts_then : (o : Outcome S) (f : State S → Outcome S) → Acts o → ((t : State S) → Acts (f t)) → Acts (and_then o f)
-  acts_then (refuses r) f a h = tt
-  acts_then (tells b) f a h = a
-  acts_then (grants b t) f a h = h t
-
-  yield_acts : (s : State S) (n : ℕ) → Acts (do_yield K s n)
-  yield_acts s n = by_live Acts (λ q. tt) s.core.depth (find s.core.roll n) (λ l. unless s.core.depth ((lends s.core.roll n, 9) ∷ []) (grants done (given_back K s l))) (λ l found. by_checks Acts (λ q. tt) s.core.depth ((lends s.core.roll n, 9) ∷ []) (grants done (given_back K s l)) (λ f. tt))
-
-  yields_act : (ns : List ℕ) (s : State S) → Acts (yields K s ns)
-  yields_act [] s = tt
-  yields_act (n ∷ ns) s = acts_then (do_yield K s n) (λ t. yields K t ns) (yield_acts s n) (λ t. yields_act ns t)
-
-  day_acts : (t : State S) (d : ℕ) → Acts (do_set_day t d)
-  day_acts t d = by_checks Acts (λ q. tt) t.core.depth ((bad_day t d, 13) ∷ (list_any (due_by d) t.core.roll, 14) ∷ []) (grants done (with_today d t)) (λ f. tt)
-
   most_answering : (j k : ℕ) (o : Outcome S) → Acts o → j ≤ k → Most k (answering (number j) o)
   most_answering j k (refuses r) a le = tt
-  most_answering j k (tells b) a le = absurd a
+  most_answering j k (tells b) a le = elim a [ ]
   most_answering j k (grants b u) a le = le
 
   -- the numbers of some leases of the roll are as few as the roll
@@ -60,7 +40,7 @@ module _ {S : Type 0} (K : Kind S) where
 
   module _ (s : State S) where
     most_recalled : (n : ℕ) → Most (length s.core.roll) (recall_all K s n)
-    most_recalled n = most_answering (length (downward (family s.core.roll n))) (length s.core.roll) (yields K s (downward (family s.core.roll n))) (yields_act (downward (family s.core.roll n)) s) (few_numbers (λ l. eqb l.number n || under s.core.roll l.number n) s.core.roll)
+    most_recalled n = most_answering (length (downward (family s.core.roll n))) (length s.core.roll) (yields K s (downward (family s.core.roll n))) (acts_yields K s (downward (family s.core.roll n))) (few_numbers (λ l. eqb l.number n || under s.core.roll l.number n) s.core.roll)
 
     most_recall : (n : ℕ) → Most (length s.core.roll) (perform K s (recall n))
     most_recall n = by_checks (Most (length s.core.roll)) (λ q. tt) 0 ((not (live s.core.roll n), 6) ∷ []) (recall_all K s n) (λ f. most_recalled n)
@@ -73,7 +53,7 @@ module _ {S : Type 0} (K : Kind S) where
         go false = omega arith
 
     most_day : (d : ℕ) → Most (length s.core.roll) (perform K s (day d))
-    most_day d = by_checks (Most (length s.core.roll)) (λ q. tt) 0 ((bad_day s d, 13) ∷ []) (answering (number (length ns)) (and_then (yields K s ns) (λ t. do_set_day t d))) (λ f. most_answering (length ns) (length s.core.roll) (and_then (yields K s ns) (λ t. do_set_day t d)) (acts_then (yields K s ns) (λ t. do_set_day t d) (yields_act ns s) (λ t. day_acts t d)) (few_numbers (due_by d) s.core.roll))
+    most_day d = by_checks (Most (length s.core.roll)) (λ q. tt) 0 ((bad_day s d, 13) ∷ []) (answering (number (length ns)) (and_then (yields K s ns) (λ t. do_set_day t d))) (λ f. most_answering (length ns) (length s.core.roll) (and_then (yields K s ns) (λ t. do_set_day t d)) (acts_then (yields K s ns) (λ t. do_set_day t d) (acts_yields K s ns) (λ t. acts_day K t d)) (few_numbers (due_by d) s.core.roll))
       where
         ns : List ℕ
         ns = downward (filter (due_by d) s.core.roll)

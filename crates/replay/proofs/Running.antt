@@ -21,6 +21,7 @@ use Rattle.book.specs.Books.{opening, count_in, event_in, bytes_of}
 use Rattle.book.specs.Events.{asked}
 use Rattle.calls.specs.declared.list.Tallies.{Tallies}
 use Rattle.calls.specs.Listed.{SomeOffice, all_closed, counted}
+use Rattle.calls.proofs.Following.{follows, each_follows}
 use Rattle.replay.specs.declared.fault.Fault.{Fault}
 use Rattle.replay.specs.declared.session.Reading.{Reading}
 use Rattle.replay.specs.Told.{Told, told, told_of}
@@ -117,17 +118,10 @@ module _ {S : Type 0} (K : Kind S) (layers : Layers S) where
       }
 
 module _ {O S : Type 0} (K : Kind S) (means : O → State S) (layers : O → Layers S) (ls : Layers S) (follow : (o : O) → Follow (layers o) (means o)) where
-  follows : (s : State S) → SomeOffice means layers ls s → Follow ls s
-  follows s h = subst (λ (x : State S). Follow ls x) h.1 (subst (λ (l : Layers S). Follow l (means h.0)) h.2 (follow h.0))
-
-  each_follows : (ms : List (Moment S)) → EachCameTo (SomeOffice means layers ls) ms → EachCameTo (Follow ls) ms
-  each_follows [] each = tt
-  each_follows (m ∷ ms) each = (follows m.before each.0, each_follows ms each.1)
-
   -- where objections follow from layers, a replay is what is worked out
   pub replayed_is_run : (b : List ℕ) (s : State S) (n : ℕ) (faults : List Fault) (tallies : Tallies) (t : State S) → SomeOffice means layers ls t → Replayed K (SomeOffice means layers ls) b s n faults tallies t → Replay K ls b s n faults tallies t
   replayed_is_run b s n faults tallies t f whole =
-      let q = events_worked K ls b whole.turns s t whole.events (each_follows (history whole.turns) whole.stood) (follows t f) ∙ ap (run K ls b s) whole.every in
+      let q = events_worked K ls b whole.turns s t whole.events (each_follows means layers ls follow (history whole.turns) whole.stood) (follows means layers ls follow t f) ∙ ap (run K ls b s) whole.every in
       let es = ap (λ (z : List (Turn S) × State S). z.0) q in
       record {
         every = ap length (sym es) ∙ whole.every;
