@@ -1,5 +1,5 @@
 -- Jobs: calls, and a hand-in after them, are one list.
-use Rattle.std.proofs.Common.{◌≡◌, ℕ, ◌+◌, ◌<◌, ◌≤◌, false, Some, None, Ok, List, [], ◌∷◌, ◌++◌, Option, length, take, refl, sym, ap, ap₂, ◌∙◌, subst, arith}
+use Rattle.std.proofs.Common.{◌≡◌, ℕ, ◌+◌, ◌<◌, ◌≤◌, true, false, Some, None, Ok, List, [], ◌∷◌, ◌++◌, Option, length, take, refl, sym, ap, ap₂, ◌∙◌, subst, arith}
 use Rattle.std.proofs.lemmas.List.{take_all}
 use native.Mathlib.Numerals.{unary_clauses}
 use Rattle.shares.specs.Kind.{Kind}
@@ -13,6 +13,7 @@ use Rattle.lending.specs.Perform.{perform, Does}
 use Rattle.lending.specs.History.{Closing, closing, tally, none, one_if_done, its_number}
 use Rattle.lending.specs.History.Closing.{by_yield, by_merge, by_recall, by_day, by_none}
 use Rattle.lending.specs.Promise.{LendingConserved}
+use Rattle.lending.specs.Idle.{idle}
 use Rattle.lending.specs.Told.{meant}
 use Rattle.lending.proofs.Plays.{worked_call}
 use Rattle.calls.specs.declared.call.Call.{Call}
@@ -23,6 +24,7 @@ use Rattle.calls.specs.declared.call.Answer.TheVariants as answers
 use Rattle.calls.specs.Values.{called, answered}
 use Rattle.calls.specs.Listed.{SomeOffice, ListMade, all_closed, counted}
 use Rattle.calls.specs.Jobs.{meant_if_any, if_refused, is_refused, NoneRefused, EndedBy, one_or_go_on, until_refused, Until, JobDone}
+use Rattle.calls.specs.Quiet.{AllIdle}
 use Rattle.calls.proofs.Following.{list_played}
 use Rattle.calls.proofs.Making.{none_made, one_more}
 
@@ -67,8 +69,16 @@ module _ {O S : Type 0} (K : Kind S) (means : O → State S) (layers : O → Lay
         calls_made = until;
         handed_in = handed;
         made = made;
+        one_history = refl;
         played = list_played K means layers before after _ _ made (same' ∙ same);
       }
+
+module _ {O S : Type 0} (K : Kind S) (means : O → State S) where
+  -- where nothing is granted, neither of the calls nor of the hand-in, a job leaves the office as it was
+  pub idle_job : (before between after : O) (slip drawn : ℕ) (calls : List Call) → (AllIdle K (means before) calls → between ≡ before) → (idle (perform K (means between) (hand_in slip)) ≡ true → after ≡ between) → slip ≡ drawn → AllIdle K (means before) calls → idle (perform K (means before) (hand_in drawn)) ≡ true → after ≡ before
+  idle_job before between after slip drawn calls stays closes is all none =
+      let same = stays all in
+      closes (subst (λ (o : O). idle (perform K (means o) (hand_in slip)) ≡ true) (sym same) (subst (λ (n : ℕ). idle (perform K (means before) (hand_in n)) ≡ true) (sym is) none)) ∙ same
 
 module _ {O S : Type 0} (K : Kind S) (means : O → State S) (layers : O → Layers S) (before : O) where
   -- Of some calls the first so many, xs, are made and none was refused; rest are the others.

@@ -72,7 +72,8 @@ module _ {O S : Type 0} (K : Kind S) (means : O → State S) (layers : O → Lay
     pub between : O
     pub calls_made : Until calls job.made job.refusal job.tallies between
     pub handed_in : Does K (means between) (hand_in lease) (number job.closed) (means after)
-    -- all of it is one list of calls
+    -- all of it is one list of calls, and one history: that of the calls with the hand-in after them
     pub made : ListMade K means layers before (take job.made calls ++ (HandIn lease ∷ [])) (counted {S = S} job.tallies (hand_in lease) (number job.closed)) after
+    pub one_history : made.history ≡ record { before = means between; call = hand_in lease; answer = number job.closed } ∷ calls_made.made.history
     -- where objections follow from the layers, it is played
     pub played : ListPlayed K means layers before (take job.made calls ++ (HandIn lease ∷ [])) (counted {S = S} job.tallies (hand_in lease) (number job.closed)) after

@@ -35,7 +35,7 @@ module _ {S : Type 0} where
     pub history : List (Moment S)
     pub in_order : map (λ m. m.call) history ≡ reverse (map called calls)
     pub leads : Leads K s history t
-    -- no call came to a state that the office can not have
+    -- no call came to a state that the office can't have
     pub stood : EachCameTo Of history
     -- granted yields and granted merges, without the yields inside recall, day and hand-in
     pub yields : tallies.yielded ≡ yielded history

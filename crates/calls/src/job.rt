@@ -1,8 +1,12 @@
 // Jobs: calls that are made until one is refused, with a slip beside the office.
-ghost use Rattle.std.specs.Prelude.{◌≡◌, length, MatchResult, Some, None};
+ghost use Rattle.std.specs.Prelude.{◌≡◌, true, length, MatchResult, Some, None};
+ghost use Rattle.lending.specs.Idle.{idle};
+ghost use Rattle.lending.specs.Outcome.Call.{hand_in};
+ghost use Rattle.lending.specs.Perform.{perform};
 ghost use Rattle.lending.specs.Promise.{LendingConserved};
 ghost use Rattle.office.specs.Lawful.{unused};
 ghost use Rattle.calls.specs.Jobs.{Until, JobDone};
+ghost use Rattle.calls.specs.Quiet.{AllIdle};
 
 use crate::call::Call;
 use crate::list::Tallies;
@@ -35,6 +39,7 @@ struct Stopped {
 #[tactic(auto, using(crate::proofs::Jobs::job_done))]
 pub fn do_job<O: Office>(office: &mut O, lease: u16, calls: &[Call]) -> Job
     ensures done { JobDone O.Kind.Share.kind O.Office.meaning O.Office.layers office.old lease calls.now result office.new }
+    ensures idle { AllIdle O.Kind.Share.kind (O.Office.meaning office.old) calls.now → idle (perform O.Kind.Share.kind (O.Office.meaning office.old) (hand_in lease)) ≡ true → office.new ≡ office.old }
     ensures unused { unused (O.Office.rows office.new) ≡ unused (O.Office.rows office.old) }
     ensures layers { O.Office.layers office.new ≡ O.Office.layers office.old }
     ensures lent { O.Office.lent office.new ≡ O.Office.lent office.old }
@@ -67,6 +72,7 @@ pub fn do_job<O: Office>(office: &mut O, lease: u16, calls: &[Call]) -> Job
 // the proof of the loop.
 fn make_until_refused<O: Office>(office: &mut O, calls: &[Call]) -> Result<Tallies, Stopped>
     ensures until { MatchResult result (λ tallies. Until O.Kind.Share.kind O.Office.meaning O.Office.layers office.old calls.now (length calls.now) None tallies office.new) (λ stopped. Until O.Kind.Share.kind O.Office.meaning O.Office.layers office.old calls.now stopped.made (Some stopped.refusal) stopped.tallies office.new) }
+    ensures idle { AllIdle O.Kind.Share.kind (O.Office.meaning office.old) calls.now → office.new ≡ office.old }
     ensures unused { unused (O.Office.rows office.new) ≡ unused (O.Office.rows office.old) }
     ensures layers { O.Office.layers office.new ≡ O.Office.layers office.old }
     ensures lent { O.Office.lent office.new ≡ O.Office.lent office.old }

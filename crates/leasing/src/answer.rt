@@ -7,11 +7,11 @@ use ledger::Ledger;
 use lending::Lease;
 use office::Office;
 use quota::Quota;
-use shares::Shown;
+use shares::PlainText;
 use term::Term;
 
 // Sets up an office, and makes the calls to it.
-pub(crate) fn serve<S: Shown>(
+pub(crate) fn serve<S: PlainText>(
     rt: &HostRuntime,
     office: SetUp,
     lines: &[Line],
@@ -30,7 +30,7 @@ pub(crate) fn serve<S: Shown>(
 }
 
 // Piles the three layers on an office, and makes the calls.
-fn serve_over<S: Shown, O: Office<Kind = S> + Drop>(
+fn serve_over<S: PlainText, O: Office<Kind = S> + Drop>(
     rt: &HostRuntime,
     below: O,
     office: SetUp,
@@ -52,7 +52,7 @@ fn serve_over<S: Shown, O: Office<Kind = S> + Drop>(
 }
 
 // Makes a call, and prints it, its answer, and the roll after a call that may change it.
-fn answer<S: Shown, O: Office<Kind = S>>(
+fn answer<S: PlainText, O: Office<Kind = S>>(
     rt: &HostRuntime,
     office: &mut O,
     call: Call,
@@ -71,7 +71,7 @@ fn answer<S: Shown, O: Office<Kind = S>>(
 }
 
 // Makes a list of calls, and prints them, what they closed, and the roll after them.
-fn answer_list<S: Shown, O: Office<Kind = S>>(
+fn answer_list<S: PlainText, O: Office<Kind = S>>(
     rt: &HostRuntime,
     office: &mut O,
     calls: &[Call],
@@ -83,7 +83,7 @@ fn answer_list<S: Shown, O: Office<Kind = S>>(
 
 // Does a job, and prints it, how many of its calls were made, the refusal that stopped it, what the calls and the hand-in
 // closed, and the roll after them.
-fn answer_job<S: Printed, O: Office<Kind = S>>(
+fn answer_job<S: PlainText, O: Office<Kind = S>>(
     rt: &HostRuntime,
     office: &mut O,
     lease: u16,

@@ -3,7 +3,7 @@ use calls::{Answer, Call, Tallies};
 use desk::{count, issued, leases, today};
 use lending::{Lease, Refusal};
 use office::Office;
-use shares::{Shown, Text};
+use shares::{PlainText, Text};
 use std::fmt;
 
 // Some calls, on one line.
@@ -17,7 +17,7 @@ pub(crate) fn print_calls(rt: &HostRuntime, calls: &[Call]) -> anyhow::Result<()
 }
 
 // The answer to a call.
-pub(crate) fn print_answer<S: Shown>(
+pub(crate) fn print_answer<S: PlainText>(
     rt: &HostRuntime,
     call: Call,
     answer: Result<Answer<S>, Refusal>,
@@ -67,7 +67,7 @@ pub(crate) fn print_tallies(rt: &HostRuntime, tallies: Tallies) -> anyhow::Resul
 }
 
 // The roll of an office.
-pub(crate) fn print_roll<S: Shown, O: Office<Kind = S>>(
+pub(crate) fn print_roll<S: PlainText, O: Office<Kind = S>>(
     rt: &HostRuntime,
     office: &O,
 ) -> anyhow::Result<()> {
@@ -86,7 +86,7 @@ pub(crate) fn print_roll<S: Shown, O: Office<Kind = S>>(
 #[derive(Drop)]
 struct Entry<S>(Lease<S>);
 
-impl<S: Shown> fmt::Display for Entry<S> {
+impl<S: PlainText> fmt::Display for Entry<S> {
     fn fmt<W: fmt::Write>(&self, f: &mut fmt::Formatter<W>) -> fmt::Result {
         let Lease {
             number,

@@ -9,7 +9,8 @@ use Rattle.calls.specs.declared.call.Call.{Call}
 use Rattle.calls.specs.declared.list.Tallies.{Tallies}
 use Rattle.calls.specs.Values.{called}
 use Rattle.calls.specs.Played.{Played}
-use Rattle.lender.specs.Lent.{layers, new_office, made, made_over}
+use Rattle.calls.specs.Played.{in_turn}
+use Rattle.lender.specs.Lent.{layers, new_office, made}
 
 module _ {S : Type 0} where
   pub three_layers : (quota term chain : Own S) (a b c below : Layers S) → c ≡ chain ∷ below → b ≡ term ∷ c → a ≡ quota ∷ b → a ≡ quota ∷ term ∷ chain ∷ below
@@ -19,8 +20,8 @@ module _ {S : Type 0} where
   three_stand quota term chain a b c s e f g = g ∙ ap (layered quota) (f ∙ ap (layered term) e)
 
   module _ (K : Kind S) where
-    pub played_there : (ls others : Layers S) (s v t : State S) (calls : List Call) (tallies : Tallies) → ls ≡ others → s ≡ v → Played K ls s calls tallies t → Played K others v calls tallies (made_over K others v calls).1
-    played_there ls others s v t calls tallies e f p = subst (λ (l : Layers S). Played K l v calls tallies (made_over K l v calls).1) e (subst (λ (x : State S). Played K ls x calls tallies (made_over K ls x calls).1) f
+    pub played_there : (ls others : Layers S) (s v t : State S) (calls : List Call) (tallies : Tallies) → ls ≡ others → s ≡ v → Played K ls s calls tallies t → Played K others v calls tallies (in_turn K others v calls).1
+    played_there ls others s v t calls tallies e f p = subst (λ (l : Layers S). Played K l v calls tallies (in_turn K l v calls).1) e (subst (λ (x : State S). Played K ls x calls tallies (in_turn K ls x calls).1) f
         record {
           leaves = refl;
           yields = p.yields;
@@ -29,8 +30,8 @@ module _ {S : Type 0} where
           lapses = p.lapses;
         })
 
-    pub roll_there : (ls others : Layers S) (s v t : State S) (calls : List Call) (tallies : Tallies) → ls ≡ others → s ≡ v → Played K ls s calls tallies t → t.core.roll ≡ (made_over K others v calls).1.core.roll
-    roll_there ls others s v t calls tallies e f p = ap (λ (x : State S). x.core.roll) (p.leaves ∙ ap₂ (λ (l : Layers S) (x : State S). (made_over K l x calls).1) e f)
+    pub roll_there : (ls others : Layers S) (s v t : State S) (calls : List Call) (tallies : Tallies) → ls ≡ others → s ≡ v → Played K ls s calls tallies t → t.core.roll ≡ (in_turn K others v calls).1.core.roll
+    roll_there ls others s v t calls tallies e f p = ap (λ (x : State S). x.core.roll) (p.leaves ∙ ap₂ (λ (l : Layers S) (x : State S). (in_turn K l x calls).1) e f)
 
     pub made_conserved : LendingConserved K → (quota term chain rows : ℕ) (calls : List Call) → Conserved K (made K quota term chain rows calls).0 (made K quota term chain rows calls).1
     made_conserved always quota term chain rows calls =

@@ -1,16 +1,15 @@
 -- What calls to a new office over lent rows come to.
-use Rattle.std.specs.Prelude.{ℕ, min, List, [], ◌∷◌, map, reverse}
+use Rattle.std.specs.Prelude.{ℕ, min, List, [], ◌∷◌}
 use Rattle.shares.specs.Kind.{Kind}
 use Rattle.lending.specs.Limits.{most_rows}
 use Rattle.lending.specs.Office.{State, new_ledger}
 use Rattle.lending.specs.Layers.{Layers, pile}
 use Rattle.lending.specs.History.{Moment}
-use Rattle.lending.specs.Play.{play}
 use Rattle.quota.specs.Means.{quota_objects}
 use Rattle.term.specs.Means.{term_objects}
 use Rattle.chain.specs.Means.{chain_objects}
 use Rattle.calls.specs.declared.call.Call.{Call}
-use Rattle.calls.specs.Values.{called}
+use Rattle.calls.specs.Played.{in_turn}
 
 module _ {S : Type 0} where
   -- the three layers with their numbers, the outermost first
@@ -21,11 +20,6 @@ module _ {S : Type 0} where
   abbrev pub new_office : (quota term chain rows : ℕ) → State S
   new_office quota term chain rows = pile (layers quota term chain) (new_ledger (min most_rows rows))
 
-  -- a list of calls made in its order at an office with these layers: each with its answer, the last one first, and what the
-  -- office comes to
-  abbrev pub made_over : Kind S → Layers S → State S → List Call → List (Moment S) × State S
-  made_over K layers s calls = play K layers s (reverse (map called calls))
-
-  -- the same at that new office
+  -- what a list of calls, made in its order, comes to at that new office
   abbrev pub made : Kind S → (quota term chain rows : ℕ) → List Call → List (Moment S) × State S
-  made K quota term chain rows calls = made_over K (layers quota term chain) (new_office quota term chain rows) calls
+  made K quota term chain rows calls = in_turn K (layers quota term chain) (new_office quota term chain rows) calls

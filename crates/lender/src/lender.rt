@@ -2,8 +2,8 @@ ghost use Rattle.std.specs.Prelude.{◌≡◌, ◌++◌, length, take};
 ghost use Rattle.lending.specs.Layers.{pile};
 ghost use Rattle.lending.specs.Promise.{Conserved, LendingConserved};
 ghost use Rattle.office.specs.Lawful.{unused};
-ghost use Rattle.calls.specs.Played.{Played};
-ghost use Rattle.lender.specs.Lent.{layers, new_office, made, made_over};
+ghost use Rattle.calls.specs.Played.{in_turn, Played};
+ghost use Rattle.lender.specs.Lent.{layers, new_office, made};
 
 use calls::{Call, Tallies, make_all};
 use chain::Chain;
@@ -55,8 +55,8 @@ fn make_in<'a, S: Share>(
 
 // The calls made through the three layers over an office. Gives that office back, beside the tallies.
 fn make_over<O: Piled>(below: O, quota: u16, term: u16, chain: u16, calls: &[Call]) -> (Tallies, O)
-    ensures played { let ls = layers quota term chain in Played O.Kind.Share.kind (ls ++ O.Office.layers below) (pile ls (O.Office.meaning below)) calls.now result.0 (made_over O.Kind.Share.kind (ls ++ O.Office.layers below) (pile ls (O.Office.meaning below)) calls.now).1 }
-    ensures roll { let ls = layers quota term chain in (O.Office.meaning result.1).core.roll ≡ (made_over O.Kind.Share.kind (ls ++ O.Office.layers below) (pile ls (O.Office.meaning below)) calls.now).1.core.roll }
+    ensures played { let ls = layers quota term chain in Played O.Kind.Share.kind (ls ++ O.Office.layers below) (pile ls (O.Office.meaning below)) calls.now result.0 (in_turn O.Kind.Share.kind (ls ++ O.Office.layers below) (pile ls (O.Office.meaning below)) calls.now).1 }
+    ensures roll { let ls = layers quota term chain in (O.Office.meaning result.1).core.roll ≡ (in_turn O.Kind.Share.kind (ls ++ O.Office.layers below) (pile ls (O.Office.meaning below)) calls.now).1.core.roll }
     ensures unused { unused (O.Office.rows result.1) ≡ unused (O.Office.rows below) }
     ensures lent { O.Office.lent result.1 ≡ O.Office.lent below }
 {

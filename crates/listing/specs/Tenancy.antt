@@ -59,7 +59,8 @@ shown_of b = shown_by (opening b) b
 abbrev pub played : List ℕ → List ℕ
 played b = text_of (shown_of b)
 
--- Two books whose printouts are the same bytes show the same, and may be of different kinds.
+-- Two books whose printouts are the same bytes show the same, and may be of different kinds. Both can be read, as those of
+-- `tenancy` can.
 abbrev pub OnePrintout : Type 0
 OnePrintout = (a b : List ℕ) → IsReadable (shown_of a) → IsReadable (shown_of b) → played a ≡ played b → shown_of a ≡ shown_of b
 

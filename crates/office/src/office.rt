@@ -28,7 +28,7 @@ pub trait Office {
     // Which loan of rows that is: each mutable reference has a name of its own, and whoever lent it knows the name.
     ghost lent: { Self → ℕ };
 
-    // Some layers of it, the outermost first, by what each objects to by itself; none are as good as any. No call changes what
+    // Some layers of it, the outermost first, by what each objects to by itself; it may name none. No call changes what
     // these object to. The office may object to more, and to other things after each granted call.
     ghost layers: { Self → Layers Self.Kind };
 

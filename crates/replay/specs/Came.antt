@@ -35,7 +35,7 @@ module _ {S : Type 0} (K : Kind S) where
     pub turns : List (Turn S)
     pub every : length turns ≡ n
     pub events : Events b turns s t
-    -- no call came to a state that the office can not have
+    -- no call came to a state that the office can't have
     pub stood : EachCameTo Of (history turns)
     -- the faults are those of the refused events
     pub refused : map told faults ≡ refusals turns

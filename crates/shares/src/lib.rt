@@ -3,14 +3,14 @@
 
 mod count;
 mod joins;
+mod plain_text;
 mod printed;
 mod share;
-mod shown;
 mod text;
 
 pub use count::write_count;
 pub use joins::join_all;
+pub use plain_text::PlainText;
 pub use printed::Printed;
 pub use share::Share;
-pub use shown::Shown;
 pub use text::Text;

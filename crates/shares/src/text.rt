@@ -1,13 +1,13 @@
 ghost use Rattle.std.specs.Prelude.{◌≡◌, Some};
 
-use crate::shown::Shown;
+use crate::plain_text::PlainText;
 use std::fmt;
 
 // A share that prints as its text.
 #[derive(Clone, Copy)]
 pub struct Text<S>(pub S);
 
-impl<S: Shown> fmt::Display for Text<S> {
+impl<S: PlainText> fmt::Display for Text<S> {
     ghost output = { λ t. Some (S.text t.0) };
 
     fn fmt<W: fmt::Write>(&self, f: &mut fmt::Formatter<W>) -> fmt::Result {
@@ -17,7 +17,7 @@ impl<S: Shown> fmt::Display for Text<S> {
 }
 
 // The text of a share, written into a space and read there.
-fn text_in<S: Shown>(share: S, space: &mut [u8; 190]) -> &str
+fn text_in<S: PlainText>(share: S, space: &mut [u8; 190]) -> &str
     ensures { result.now ≡ S.text share }
 {
     let length = share.write(space);

@@ -6,7 +6,7 @@ mod order;
 use crate::order::{NoOrder, Order};
 use kinds::{of_kind, *};
 use loans::{Loan, Round, SharedOut, lend_and_return};
-use shares::{Shown, Text};
+use shares::{PlainText, Text};
 use std::io::ErrorKind;
 
 fn main(rt: HostRuntime) -> anyhow::Result<()> {
@@ -41,7 +41,7 @@ fn answer(rt: &HostRuntime, line: &str) -> anyhow::Result<()> {
 }
 
 // Shares a whole resource out, takes every share back, and prints each step.
-fn share_out<S: Shown>(rt: &HostRuntime, borrowers: u16) -> anyhow::Result<()> {
+fn share_out<S: PlainText>(rt: &HostRuntime, borrowers: u16) -> anyhow::Result<()> {
     let Round { out, back } = lend_and_return::<S>(rt.alloc(), usize::from(borrowers))?;
     let SharedOut { loans, left } = out;
     print_loans(rt, &loans)?;
@@ -59,7 +59,7 @@ fn share_out<S: Shown>(rt: &HostRuntime, borrowers: u16) -> anyhow::Result<()> {
 }
 
 // A line for each loan.
-fn print_loans<S: Shown>(rt: &HostRuntime, loans: &[Loan<S>]) -> anyhow::Result<()> {
+fn print_loans<S: PlainText>(rt: &HostRuntime, loans: &[Loan<S>]) -> anyhow::Result<()> {
     for (number, loan) in (1u64..).zip(loans) {
         let Loan { lent, kept } = *loan;
         let lent = Text(lent);

@@ -2,7 +2,7 @@ use crate::{free_row, prints};
 use calls::{Call, Tallies, do_job, make, make_all};
 use chain::Chain;
 use desk::{Slip, lease_at, may_write, standing, yield_lease};
-use fickle::{Answers, Fickle, work, work_fickle};
+use fickle::{Fickle, work, work_fickle};
 use ledger::Ledger;
 use lender::lend_rows;
 use lending::Refusal;

@@ -6,7 +6,7 @@ ghost use Rattle.counting.specs.Texts.{tells};
 
 use crate::counting::Counting;
 use crate::permission::Permission;
-use shares::{Printed, Shown, write_count};
+use shares::{PlainText, Printed, write_count};
 
 impl Printed for Counting {
     ghost text = { λ s. permission_text s.held };
@@ -24,7 +24,7 @@ impl Printed for Counting {
     }
 }
 
-impl Shown for Counting {
+impl PlainText for Counting {
     ghost ascii = { λ a. Texts.ascii a.held a.limited };
 }
 

@@ -5,7 +5,7 @@ ghost use Rattle.trees.specs.Faithful.{tells};
 
 use crate::block::write_cells;
 use crate::trees::Trees;
-use shares::{Printed, Shown};
+use shares::{PlainText, Printed};
 
 impl Printed for Trees {
     ghost text = { text_of_share };
@@ -19,6 +19,6 @@ impl Printed for Trees {
     }
 }
 
-impl Shown for Trees {
+impl PlainText for Trees {
     ghost ascii = { λ a. text_ascii (tree a) };
 }

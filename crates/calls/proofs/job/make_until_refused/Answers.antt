@@ -1,5 +1,7 @@
-use Rattle.std.proofs.Common.{◌≡◌, ◌+◌, arith, refl, sym, subst, get_or, take, drop, ◌∙◌, IsSome, MatchOption, Ok}
+use Rattle.std.proofs.Common.{◌≡◌, ◌+◌, true, arith, refl, sym, subst, get_or, take, drop, ◌∙◌, IsSome, MatchOption, Ok}
 use Rattle.std.proofs.lemmas.List.{take_more, take_all, drop_more, drop_all}
+use Rattle.lending.specs.Perform.{perform}
+use Rattle.lending.specs.Idle.{idle}
 use Rattle.calls.specs.declared.call.Call.TheVariants.{Open}
 use Rattle.calls.specs.Values.{called, answered}
 use Rattle.calls.specs.Listed.{SomeOffice, TooLarge, counted}
@@ -11,6 +13,7 @@ pub loop-call-init : goal.loop-call-init
 loop-call-init g c = record {
   many = refl;
   so_far = none_so_far g.O.Kind.Share.kind g.O.Office.meaning g.O.Office.layers c.args.office.now c.lending_is_conserved.ensures.always c.args.calls.now c.default-tallies.result (omega arith);
+  idle = λ all. refl;
   unused = refl;
   layers = refl;
   lent = refl;
@@ -37,6 +40,10 @@ returns-in-Err-clause-until g c =
     rw c.loop-call.invariant.many (stopped g.O.Kind.Share.kind g.O.Office.meaning g.O.Office.layers c.args.office.now c.make.ensures.always calls i (take i calls) call (drop (i + 1) calls) c.loop-call.tallies c.loop-call.office c.make.new.office so c.loop-call.invariant.layers (c.make.ensures.layers ∙ c.loop-call.invariant.layers)
     c.in-Err.refusal c.in-Err.ensures.does c.loop-call-test.true (sym (take_more calls i (Open 0 0) c.loop-call-test.true)))
 
+pub returns-in-Err-clause-idle : goal.returns-in-Err-clause-idle
+returns-in-Err-clause-idle g c all = (let stays = c.loop-call.invariant.idle all in
+    c.make.ensures.idle (subst (λ (o : g.row.O.Denot). idle (perform g.O.Kind.Share.kind (g.O.Office.meaning o) (called (get_or c.args.calls.now c.loop-call.call-index (Open 0 0)))) ≡ true) (sym stays) (all c.loop-call.call-index (Open 0 0) c.loop-call-test.true)) ∙ stays)
+
 pub loop-call-preserved : goal.loop-call-preserved
 loop-call-preserved g c =
     let K = g.O.Kind.Share.kind in
@@ -52,6 +59,8 @@ loop-call-preserved g c =
     record {
       many = omega arith;
       so_far = rw (take_more calls i (Open 0 0) c.loop-call-test.true, is) next;
+      idle = λ all. (let stays = c.loop-call.invariant.idle all in
+          c.make.ensures.idle (subst (λ (o : g.row.O.Denot). idle (perform g.O.Kind.Share.kind (g.O.Office.meaning o) (called (get_or c.args.calls.now c.loop-call.call-index (Open 0 0)))) ≡ true) (sym stays) (all c.loop-call.call-index (Open 0 0) c.loop-call-test.true)) ∙ stays);
       unused = c.make.ensures.unused ∙ c.loop-call.invariant.unused;
       layers = layers;
       lent = c.make.ensures.lent ∙ c.loop-call.invariant.lent;

@@ -20,4 +20,4 @@ unwrap-requires g c =
     let text = g.S.Printed.text share in
     let n = c.write-length.result in
     let e : take n c.write-length.new.space ≡ text = front text _ c.write-length.new.space n c.write-length.ensures.length c.write-length.ensures.bytes in
-    read _ _ c.from_utf8.result c.from_utf8.ensures.cases (subst IsUtf8 (sym e) (IsUtf8-from_ascii text (g.met.S.Shown.ascii share)))
+    read _ _ c.from_utf8.result c.from_utf8.ensures.cases (subst IsUtf8 (sym e) (IsUtf8-from_ascii text (g.met.S.PlainText.ascii share)))
