@@ -49,7 +49,8 @@ pub fn work<O: Office>(
     }
 }
 
-// The same at a fickle office over a new ledger.
+// The same at a fickle office over a new ledger. What it objects to in between follows from nothing that the definitions know, so
+// that its contract says of the last state only that there is one; a test pins when the office flips.
 pub fn work_fickle<'a, S: Share>(
     rows: &'a mut [Lease<S>],
     resource: u16,

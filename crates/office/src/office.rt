@@ -25,7 +25,8 @@ pub trait Office {
     // What the rows hold that were lent to its ledger.
     ghost rows: { Self → List (Lease Self.Kind) };
 
-    // Which loan of rows that is: each mutable reference has a name of its own, and whoever lent it knows the name.
+    // Which loan of rows that is, and nothing about leases: each mutable reference has a name of its own, and whoever lent it knows
+    // the name.
     ghost lent: { Self → ℕ };
 
     // Some layers of it, the outermost first, by what each objects to by itself; it may name none. No call changes what
