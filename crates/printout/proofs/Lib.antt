@@ -1,2 +1,7 @@
-pub mod Lengths
-pub mod Reading
+mod Added
+mod Adding
+mod Backs
+mod Cuts
+mod Reading
+mod Unbroken
+mod Whole

@@ -1,34 +1,48 @@
--- What an office's answer at a position says of the roll.
-use Rattle.std.proofs.Common.{◌≡◌, ℕ, zero, suc, List, [], ◌∷◌, slice_get, Ok, Err, Some, None, Result, refl, sym}
-use mathlib.Core.Option as maybe
-use lib.ListN.{get_elem?}
-use Rattle.std.specs.Result.{result_ok}
-use Rattle.lending.specs.declared.lease.Lease.{Lease}
-use Rattle.lending.specs.declared.refusal.Refusal.{Refusal}
+-- What an office's printout shows can be read back.
+use Rattle.std.proofs.Common.{◌≡◌, ℕ, ◌<◌, ◌≤◌, List, [], ◌∷◌, map, true, nat_le, Ok, Err, Result, OnOk, refl, arith}
+use Rattle.std.specs.List.{AllByRecursion}
+use Rattle.std.proofs.lemmas.Bool.{leb-true, and_parts}
+use native.Mathlib.Bridge.{le_prop}
+use mathlib.Core.Logic.{∥∥₁_elim}
+use mathlib.Core.List.{Memᴰ}
 use Rattle.shares.specs.Kind.{Kind}
+use Rattle.lending.specs.declared.lease.Lease.{Lease}
+use Rattle.lending.specs.Limits.{within_range}
 use Rattle.lending.specs.Office.{State}
-use Rattle.lending.specs.Outcome.{tell_at}
-use Rattle.lending.specs.Outcome.Call.{ask_lease_at}
-use Rattle.lending.specs.Perform.{Does, Ends}
-use Rattle.lending.specs.Told.{told_lease}
+use Rattle.office.specs.Lawful.{Lawful}
+use Rattle.printout.specs.Shown.{shown_lease, shown_leases}
+use Rattle.printout.specs.Readable.{NoLineBreak, ReadableLease}
 
-module _ {A : Type 0} where
-  item_at : (xs : List A) (i : ℕ) (x : A) → get_elem? xs i ≡ maybe.some x → slice_get xs i ≡ Some x
-  item_at [] i x e = cc
-  item_at (y ∷ ys) zero x e = cc
-  item_at (y ∷ ys) (suc i) x e = item_at ys i x e
+few : (n : ℕ) → within_range n ≡ true → n ≤ 999
+few n e = let p = and_parts (nat_le 1 n) (nat_le n 999) e in leb-true n 999 p.1
 
-  none_at : (xs : List A) (i : ℕ) → get_elem? xs i ≡ maybe.none → slice_get xs i ≡ None
-  none_at [] i e = refl
-  none_at (y ∷ ys) zero e = cc
-  none_at (y ∷ ys) (suc i) e = none_at ys i e
+module _ {S : Type 0} (K : Kind S) (text : S → List ℕ) (unbroken : NoLineBreak text) (s : State S) (rows : List (Lease S)) (lawful : Lawful s rows) where
+  one : (l : Lease S) → Memᴰ l s.core.roll → ReadableLease (shown_lease K text s.core.roll l)
+  one l m =
+      let o = lawful.orderly in
+      let n = lawful.numbers in
+      let a : l.number ≤ s.core.issued = ∥∥₁_elim o (λ x y. le_prop x y) (λ q. q.within l m) in
+      let b : l.resource ≤ 999 = ∥∥₁_elim o (λ x y. le_prop x y) (λ q. few l.resource (q.ranged l m).0) in
+      let c : l.holder ≤ 999 = ∥∥₁_elim o (λ x y. le_prop x y) (λ q. few l.holder (q.ranged l m).1) in
+      let d : l.lender < l.number = ∥∥₁_elim o (λ x y. le_prop x y) (λ q. q.lower l m) in
+      let e : l.due ≤ 10000 = ∥∥₁_elim o (λ x y. le_prop x y) (λ q. (q.ranged l m).2) in
+      record {
+        number = (omega (arith, a, n));
+        resource = (omega (arith, b));
+        holder = (omega (arith, c));
+        lender = (omega (arith, a, d, n));
+        due = (omega (arith, e));
+        text = unbroken l.share;
+      }
 
-module _ {S : Type 0} (K : Kind S) (s t : State S) where
-  pub lease_there : (i : ℕ) (r : Result (Lease S) Refusal) → Does K s (ask_lease_at i) (told_lease r) t → result_ok r ≡ slice_get s.core.roll i
-  lease_there i r d = go (get_elem? s.core.roll i) refl r d
+  pub leases_readable : AllByRecursion ReadableLease (shown_leases K text s.core.roll)
+  leases_readable = go s.core.roll (λ l m. m)
     where
-      go : (o : maybe.Option (Lease S)) → get_elem? s.core.roll i ≡ o → (r : Result (Lease S) Refusal) → Ends (tell_at s.core.depth o) s (told_lease r) t → result_ok r ≡ slice_get s.core.roll i
-      go maybe.none f (Ok y) d = let g = d.0 in cc
-      go maybe.none f (Err h) d = sym (none_at s.core.roll i f)
-      go (maybe.some z) f (Ok y) d = let g = d.0 in let k : get_elem? s.core.roll i ≡ maybe.some y = cc in sym (item_at s.core.roll i y k)
-      go (maybe.some z) f (Err h) d = let g = d.0 in cc
+      go : (ls : List (Lease S)) → ((l : Lease S) → Memᴰ l ls → Memᴰ l s.core.roll) → AllByRecursion ReadableLease (map (shown_lease K text s.core.roll) ls)
+      go [] f = tt
+      go (l ∷ ls) f = (one l (f l (Memᴰ.head refl)), go ls (λ k m. f k (Memᴰ.tail m)))
+
+-- what holds anyway holds where there was memory
+pub on_ok : {T E : Type 0} (r : Result T E) {P : Type 0} → P → OnOk r P
+on_ok (Ok x) p = p
+on_ok (Err e) p = tt

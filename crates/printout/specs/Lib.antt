@@ -1,2 +1,5 @@
-pub mod Answers
-pub mod Lines
+pub mod Adds
+pub mod Printouts
+pub mod Readable
+pub mod Shown
+pub mod Tenancy

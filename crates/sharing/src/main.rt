@@ -5,7 +5,7 @@ mod order;
 
 use crate::order::{NoOrder, Order};
 use kinds::{of_kind, *};
-use loans::{Loan, Round, SharedOut, lend_and_return};
+use rounds::{Loan, Round, SharedOut, lend_and_return};
 use shares::{PlainText, Text};
 use std::io::ErrorKind;
 

@@ -2,7 +2,7 @@
 #![tactic(auto)]
 
 use book::bytes_to_read;
-use listing::tenancy;
+use printout::tenancy;
 use std::io::{self, Read, Write};
 
 fn main(rt: HostRuntime) -> anyhow::Result<()> {

@@ -1,5 +1,0 @@
-pub mod Adds
-pub mod Printouts
-pub mod Readable
-pub mod Shown
-pub mod Tenancy

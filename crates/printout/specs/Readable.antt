@@ -1,0 +1,50 @@
+-- What a printout shows can be read back.
+use Rattle.std.specs.Prelude.{◌≡◌, ◌≢◌, ℕ, ◌<◌, ◌^◌, List, [], IfSome, IfNone}
+use Rattle.std.specs.List.{AllByRecursion}
+use Rattle.lines.specs.declared.line.totals.Totals.{Totals}
+use Rattle.replay.specs.Told.{Told}
+use Rattle.printout.specs.Shown.{ShownLease, Shown, text_of}
+
+-- none of the bytes is this one
+abbrev pub Lacks : ℕ → List ℕ → Type 0
+Lacks byte xs = AllByRecursion (λ x. x ≢ byte) xs
+
+-- no share's text has a line break
+abbrev pub NoLineBreak : {S : Type 0} → (S → List ℕ) → Type 0
+NoLineBreak {S} text = (share : S) → Lacks 10 (text share)
+
+-- 64 bits hold the number
+abbrev pub Small : ℕ → Type 0
+Small n = n < 2 ^ 64
+
+pub record ReadableTold (x : Told) : Type 0 where
+  pub event : Small x.event
+  pub number : Small x.number
+  pub level : IfSome x.level Small
+
+pub record ReadableLease (x : ShownLease) : Type 0 where
+  pub number : Small x.lease.number
+  pub resource : Small x.lease.resource
+  pub holder : Small x.lease.holder
+  pub lender : Small x.lease.lender
+  pub due : Small x.lease.due
+  pub text : Lacks 10 x.lease.share
+
+pub record ReadableTotals (x : Totals) : Type 0 where
+  pub issued : Small x.issued
+  pub live : Small x.live
+  pub yielded : Small x.yielded
+  pub merged : Small x.merged
+  pub recalled : Small x.recalled
+  pub lapsed : Small x.lapsed
+
+-- Its numbers are those that 64 bits hold, its texts have no line break, and without totals it has no leases.
+pub record IsReadable (p : Shown) : Type 0 where
+  pub refusals : AllByRecursion ReadableTold p.refusals
+  pub leases : AllByRecursion ReadableLease p.leases
+  pub totals : IfSome p.totals ReadableTotals
+  pub whole : IfNone p.totals (p.leases ≡ [])
+
+-- A printout can be read back: the same bytes show the same.
+abbrev pub OneShown : Type 0
+OneShown = (p q : Shown) → IsReadable p → IsReadable q → text_of p ≡ text_of q → p ≡ q

@@ -1,0 +1,69 @@
+-- The printout of a book over a new office of its own kind of share.
+use Rattle.std.specs.Prelude.{◌≡◌, ℕ, List, [], ◌∷◌, Ok, Err, Result}
+use Rattle.kinds.specs.declared.kind.KindOfShare.{KindOfShare}
+use Rattle.kinds.specs.declared.kind.KindOfShare.TheVariants.{Trees, Counting}
+use Rattle.trees.specs.Cells.{trees_kind, text_of_share}
+use Rattle.counting.specs.Counts.{counting_kind, text}
+use Rattle.shares.specs.Kind.{Kind}
+use Rattle.lending.specs.Office.{State, new_ledger}
+use Rattle.lending.specs.Layers.{Layers, pile}
+use Rattle.quota.specs.Means.{quota_objects}
+use Rattle.term.specs.Means.{term_objects}
+use Rattle.chain.specs.Means.{chain_objects}
+use Rattle.book.specs.declared.header.Header.{Header}
+use Rattle.book.specs.Books.{opening, count_in}
+use Rattle.replay.specs.Whole.{RunConserved}
+use Rattle.printout.specs.Shown.{Shown, shown_unopened, text_of}
+use Rattle.printout.specs.Printouts.{shown}
+use Rattle.printout.specs.Readable.{IsReadable}
+
+module _ {S : Type 0} where
+  -- the layers of a book's office, the outermost first
+  abbrev pub layers : Header → Layers S
+  layers header = quota_objects 64 ∷ term_objects header.term ∷ chain_objects header.chain ∷ []
+
+  -- what a new office with them stands for: a ledger of 1,024 rows under them
+  abbrev pub new_office : Header → State S
+  new_office header = pile (layers header) (new_ledger 1024)
+
+  -- what the printout over it shows
+  abbrev pub shown_in : Header → Kind S → (S → List ℕ) → List ℕ → Shown
+  shown_in header K text b = shown K (layers header) text b (new_office header)
+
+  -- the lending promise of the events of a book, replayed over it
+  abbrev pub ConservedIn : Header → Kind S → List ℕ → Type 0
+  ConservedIn header K b = RunConserved K (layers header) b (new_office header) (count_in b)
+
+-- by the kind of share that the book names
+abbrev pub shown_kind : KindOfShare → Header → List ℕ → Shown
+shown_kind Trees header b = shown_in header trees_kind text_of_share b
+shown_kind Counting header b = shown_in header counting_kind (λ s. text s.held) b
+
+abbrev pub ConservedKind : KindOfShare → Header → List ℕ → Type 0
+ConservedKind Trees header b = ConservedIn header trees_kind b
+ConservedKind Counting header b = ConservedIn header counting_kind b
+
+abbrev pub shown_by : Result Header ℕ → List ℕ → Shown
+shown_by (Err n) b = shown_unopened n
+shown_by (Ok header) b = shown_kind header.kind header b
+
+abbrev pub ConservedBy : Result Header ℕ → List ℕ → Type 0
+ConservedBy (Err n) b = Unit {0}
+ConservedBy (Ok header) b = ConservedKind header.kind header b
+
+-- What the printout of a book with these bytes shows.
+abbrev pub shown_of : List ℕ → Shown
+shown_of b = shown_by (opening b) b
+
+-- its bytes
+abbrev pub played : List ℕ → List ℕ
+played b = text_of (shown_of b)
+
+-- Two books whose printouts are the same bytes show the same, and may be of different kinds. Both can be read, as those of
+-- `tenancy` can.
+abbrev pub OnePrintout : Type 0
+OnePrintout = (a b : List ℕ) → IsReadable (shown_of a) → IsReadable (shown_of b) → played a ≡ played b → shown_of a ≡ shown_of b
+
+-- The lending promise of its events, if it opens.
+abbrev pub PlayedConserved : List ℕ → Type 0
+PlayedConserved b = ConservedBy (opening b) b

@@ -1,0 +1,118 @@
+// Lines of a printout, each added to some bytes.
+ghost use Rattle.std.specs.Prelude.{◌≡◌, ◌<◌, [], length, map, OnOk, vec_capacity};
+ghost use Rattle.std.specs.List.{AllByRecursion};
+ghost use Rattle.std.specs.Option.{unwrap_or};
+ghost use Rattle.lines.specs.Lines.{line_at, refusal_line, total_line};
+ghost use Rattle.replay.specs.Told.{told};
+ghost use Rattle.printout.specs.Adds.{Adds};
+ghost use Rattle.printout.specs.Readable.{ReadableTold, ReadableTotals};
+ghost use Rattle.printout.specs.Shown.{line_of, refusal_lines, shown_leases, lease_lines, totals_of};
+
+use calls::Tallies;
+use desk::{count, issued};
+use office::Office;
+use lines::{Totals, lease_line, refusal_line, total_line};
+use replay::Fault;
+use shares::Printed;
+use std::alloc::AllocError;
+
+// The line of a refused event.
+pub(crate) fn add_refusal(out: &mut Vec<u8>, fault: Fault) -> Result<(), AllocError>
+    ensures adds { Adds out.old.items (vec_capacity out.old) (line_of (told fault)) result out.new.items (vec_capacity out.new) }
+    ensures readable { ReadableTold (told fault) }
+{
+    add_refusal_line(out, usize::from(fault.event), fault.number(), fault.level())
+}
+
+// The same, by its place in the book, the number of the refusal, and its level if it has one.
+fn add_refusal_line(
+    out: &mut Vec<u8>,
+    event: usize,
+    number: u8,
+    level: Option<u8>,
+) -> Result<(), AllocError>
+    ensures { Adds out.old.items (vec_capacity out.old) (refusal_line event number level) result out.new.items (vec_capacity out.new) }
+{
+    let mut space = [0; 219];
+    let length = refusal_line(event, number, level, &mut space).unwrap();
+    out.extend_from_slice(&space[..length])
+}
+
+// The lines of refused events.
+#[tactic(auto, using(crate::proofs::Added::adds_first))]
+pub(crate) fn add_refusals(out: &mut Vec<u8>, faults: &[Fault]) -> Result<(), AllocError>
+    ensures adds { Adds out.old.items (vec_capacity out.old) (refusal_lines (map told faults.now)) result out.new.items (vec_capacity out.new) }
+    ensures readable { OnOk result (AllByRecursion ReadableTold (map told faults.now)) }
+{
+    for fault in faults {
+        add_refusal(out, *fault)?;
+    }
+    Ok(())
+}
+
+// The lines of the live leases.
+#[tactic(auto, using(crate::proofs::Added::adds_first))]
+pub(crate) fn add_leases<O: Office>(out: &mut Vec<u8>, office: &O) -> Result<(), AllocError>
+where
+    O::Kind: Printed,
+    ensures { Adds out.old.items (vec_capacity out.old) (lease_lines (shown_leases O.Kind.Share.kind O.Kind.Printed.text (O.Office.meaning office.now).core.roll)) result out.new.items (vec_capacity out.new) }
+{
+    for position in 0..count(office) {
+        add_lease(out, office, position)?;
+    }
+    Ok(())
+}
+
+// The line of the live lease at a position.
+#[tactic(auto, using(crate::proofs::Adding::fits))]
+fn add_lease<O: Office>(out: &mut Vec<u8>, office: &O, position: usize) -> Result<(), AllocError>
+where
+    O::Kind: Printed,
+    requires { position < length (O.Office.meaning office.now).core.roll }
+    ensures { Adds out.old.items (vec_capacity out.old) (unwrap_or (line_at O.Kind.Share.kind O.Kind.Printed.text (O.Office.meaning office.now).core.roll position) []) result out.new.items (vec_capacity out.new) }
+{
+    let mut space = [0; 219];
+    let length = lease_line(office, position, &mut space).unwrap();
+    out.extend_from_slice(&space[..length])
+}
+
+// The line of the totals.
+pub(crate) fn add_totals<O: Office>(
+    out: &mut Vec<u8>,
+    office: &O,
+    tallies: Tallies,
+) -> Result<(), AllocError>
+    ensures adds { Adds out.old.items (vec_capacity out.old) (total_line (totals_of tallies (O.Office.meaning office.now))) result out.new.items (vec_capacity out.new) }
+    ensures readable { ReadableTotals (totals_of tallies (O.Office.meaning office.now)) }
+{
+    add_total_line(out, totals_of(office, tallies))
+}
+
+fn add_total_line(out: &mut Vec<u8>, totals: Totals) -> Result<(), AllocError>
+    ensures adds { Adds out.old.items (vec_capacity out.old) (total_line totals) result out.new.items (vec_capacity out.new) }
+    ensures readable { ReadableTotals totals }
+{
+    let mut space = [0; 219];
+    let length = total_line(totals, &mut space).unwrap();
+    out.extend_from_slice(&space[..length])
+}
+
+// What the office says at the end, and what was counted.
+fn totals_of<O: Office>(office: &O, tallies: Tallies) -> Totals
+    ensures { result ≡ totals_of tallies (O.Office.meaning office.now) }
+{
+    let Tallies {
+        yielded,
+        merged,
+        recalled,
+        lapsed,
+    } = tallies;
+    Totals {
+        issued: usize::from(issued(office)),
+        live: count(office),
+        yielded,
+        merged,
+        recalled,
+        lapsed,
+    }
+}

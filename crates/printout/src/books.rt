@@ -1,0 +1,102 @@
+ghost use Rattle.std.specs.Prelude.{◌≡◌, ◌≤◌, ◌+◌, ◌++◌, ◌⊎◌, IsErr, IsOk, OnOk, OnErr, drop, length, map, take, vec_len, vec_capacity};
+ghost use Rattle.book.specs.Books.{opening, count_in};
+ghost use Rattle.lending.specs.Promise.{LendingConserved};
+ghost use Rattle.office.specs.Lawful.{unused};
+ghost use Rattle.replay.specs.Quiet.{AllQuiet};
+ghost use Rattle.replay.specs.Told.{told};
+ghost use Rattle.replay.specs.Whole.{RunConserved};
+ghost use Rattle.printout.specs.Adds.{Begins, Adds};
+ghost use Rattle.printout.specs.Printouts.{shown, printed, refused, left};
+ghost use Rattle.printout.specs.Readable.{NoLineBreak, IsReadable, OneShown};
+ghost use Rattle.printout.specs.Shown.{shown_opened, text_of};
+
+use crate::append::{add_leases, add_refusal, add_refusals, add_totals};
+use calls::Tallies;
+use lending::lending_is_conserved;
+use office::{Office, Piled};
+use replay::{Fault, replay};
+use shares::Printed;
+use std::alloc::AllocError;
+
+// Replays a book over an office, and adds its printout to some bytes, and the faults of its refused events to a list. The list
+// gets its memory before the first event: where there is none, the office stays as it was. Later memory runs out for the bytes
+// alone, and then the replay is done.
+#[tactic(auto, using(crate::proofs::Backs::one_shown))]
+pub fn print_book<O: Piled>(
+    office: &mut O,
+    book: &[u8],
+    faults: &mut Vec<Fault>,
+    out: &mut Vec<u8>,
+) -> Result<(), AllocError>
+where
+    O::Kind: Printed,
+    ensures prints { OnOk result (out.new.items ≡ out.old.items ++ printed O.Kind.Share.kind (O.Office.layers office.old) O.Kind.Printed.text book.now (O.Office.meaning office.old)) }
+    ensures readable { NoLineBreak O.Kind.Printed.text → OnOk result (IsReadable (shown O.Kind.Share.kind (O.Office.layers office.old) O.Kind.Printed.text book.now (O.Office.meaning office.old))) }
+    ensures read_back { OneShown }
+    ensures leaves { OnOk result (O.Office.meaning office.new ≡ left O.Kind.Share.kind (O.Office.layers office.old) book.now (O.Office.meaning office.old)) }
+    ensures faults { OnOk result (map told (drop (vec_len faults.old) faults.new.items) ≡ refused O.Kind.Share.kind (O.Office.layers office.old) book.now (O.Office.meaning office.old)) }
+    ensures kept { take (vec_len faults.old) faults.new.items ≡ faults.old.items }
+    ensures begins { Begins out.old.items out.new.items }
+    ensures unopened { IsErr (opening book.now) → (office.new ≡ office.old) × (faults.new ≡ faults.old) }
+    ensures idle { AllQuiet O.Kind.Share.kind (O.Office.meaning office.old) book.now (count_in book.now) → office.new ≡ office.old }
+    ensures no_memory { OnErr result ((office.new ≡ office.old) ⊎ (O.Office.meaning office.new ≡ left O.Kind.Share.kind (O.Office.layers office.old) book.now (O.Office.meaning office.old))) }
+    ensures replayed { vec_len faults.old + count_in book.now ≤ vec_capacity faults.old → O.Office.meaning office.new ≡ left O.Kind.Share.kind (O.Office.layers office.old) book.now (O.Office.meaning office.old) }
+    ensures room { vec_len faults.old + count_in book.now ≤ vec_capacity faults.old → vec_len out.old + length (printed O.Kind.Share.kind (O.Office.layers office.old) O.Kind.Printed.text book.now (O.Office.meaning office.old)) ≤ vec_capacity out.old → IsOk result }
+    ensures conserved { RunConserved O.Kind.Share.kind (O.Office.layers office.old) book.now (O.Office.meaning office.old) (count_in book.now) }
+    ensures unused { unused (O.Office.rows office.new) ≡ unused (O.Office.rows office.old) }
+    ensures layers { O.Office.layers office.new ≡ O.Office.layers office.old }
+    ensures lent { O.Office.lent office.new ≡ O.Office.lent office.old }
+    ensures always { LendingConserved O.Kind.Share.kind }
+{
+    lending_is_conserved::<O::Kind>();
+    replay_and_print(office, book, faults, out)
+}
+
+// The same, by itself so that a wrong call of it is refused where it stands.
+fn replay_and_print<O: Piled>(
+    office: &mut O,
+    book: &[u8],
+    faults: &mut Vec<Fault>,
+    out: &mut Vec<u8>,
+) -> Result<(), AllocError>
+where
+    O::Kind: Printed,
+    ensures prints { OnOk result (out.new.items ≡ out.old.items ++ printed O.Kind.Share.kind (O.Office.layers office.old) O.Kind.Printed.text book.now (O.Office.meaning office.old)) }
+    ensures readable { NoLineBreak O.Kind.Printed.text → OnOk result (IsReadable (shown O.Kind.Share.kind (O.Office.layers office.old) O.Kind.Printed.text book.now (O.Office.meaning office.old))) }
+    ensures leaves { OnOk result (O.Office.meaning office.new ≡ left O.Kind.Share.kind (O.Office.layers office.old) book.now (O.Office.meaning office.old)) }
+    ensures faults { OnOk result (map told (drop (vec_len faults.old) faults.new.items) ≡ refused O.Kind.Share.kind (O.Office.layers office.old) book.now (O.Office.meaning office.old)) }
+    ensures kept { take (vec_len faults.old) faults.new.items ≡ faults.old.items }
+    ensures begins { Begins out.old.items out.new.items }
+    ensures unopened { IsErr (opening book.now) → (office.new ≡ office.old) × (faults.new ≡ faults.old) }
+    ensures idle { AllQuiet O.Kind.Share.kind (O.Office.meaning office.old) book.now (count_in book.now) → office.new ≡ office.old }
+    ensures no_memory { OnErr result ((office.new ≡ office.old) ⊎ (O.Office.meaning office.new ≡ left O.Kind.Share.kind (O.Office.layers office.old) book.now (O.Office.meaning office.old))) }
+    ensures replayed { vec_len faults.old + count_in book.now ≤ vec_capacity faults.old → O.Office.meaning office.new ≡ left O.Kind.Share.kind (O.Office.layers office.old) book.now (O.Office.meaning office.old) }
+    ensures room { vec_len faults.old + count_in book.now ≤ vec_capacity faults.old → vec_len out.old + length (printed O.Kind.Share.kind (O.Office.layers office.old) O.Kind.Printed.text book.now (O.Office.meaning office.old)) ≤ vec_capacity out.old → IsOk result }
+    ensures conserved { RunConserved O.Kind.Share.kind (O.Office.layers office.old) book.now (O.Office.meaning office.old) (count_in book.now) }
+    ensures unused { unused (O.Office.rows office.new) ≡ unused (O.Office.rows office.old) }
+    ensures layers { O.Office.layers office.new ≡ O.Office.layers office.old }
+    ensures lent { O.Office.lent office.new ≡ O.Office.lent office.old }
+{
+    let earlier = faults.len();
+    match replay(office, book, faults)? {
+        Ok(finished) => add_lines(out, office, &faults[earlier..], finished.tallies()),
+        Err(fault) => add_refusal(out, fault),
+    }
+}
+
+// The lines of a book that opens, by the faults of its refused events, what was counted, and the office afterwards.
+fn add_lines<O: Office>(
+    out: &mut Vec<u8>,
+    office: &O,
+    faults: &[Fault],
+    tallies: Tallies,
+) -> Result<(), AllocError>
+where
+    O::Kind: Printed,
+    ensures adds { Adds out.old.items (vec_capacity out.old) (text_of (shown_opened O.Kind.Share.kind O.Kind.Printed.text (map told faults.now) tallies (O.Office.meaning office.now))) result out.new.items (vec_capacity out.new) }
+    ensures readable { NoLineBreak O.Kind.Printed.text → OnOk result (IsReadable (shown_opened O.Kind.Share.kind O.Kind.Printed.text (map told faults.now) tallies (O.Office.meaning office.now))) }
+{
+    add_refusals(out, faults)?;
+    add_leases(out, office)?;
+    add_totals(out, office, tallies)
+}
