@@ -3,7 +3,7 @@ use Rattle.std.proofs.Common.{◌≡◌, ℕ, ◌+◌, ◌*◌, ◌/◌, ◌%◌
 use Rattle.std.specs.Prelude.{if◌then◌else◌}
 use Rattle.std.proofs.lemmas.Bool.{lt-ltb}
 use Rattle.std.proofs.lemmas.List.{get_or-drop, get_or_append_left, drop-drop, drop_at}
-use Rattle.book.specs.Books.{count_in, event_in}
+use Rattle.book.specs.Books.{event_count, event_in}
 
 within : {A : Type 0} (i n : ℕ) (x y : Option A) → i < n → (if nat_lt i n then x else y) ≡ x
 within i n x y h = let t = lt-ltb i n h in rw t
@@ -15,12 +15,12 @@ record_at : (b codes records : List ℕ) (n i : ℕ) → drop 8 b ≡ codes ++ r
 record_at b codes records n i e l =
     sym (drop-drop (6 * i) (8 + n) b) ∙ ap (drop (6 * i)) (sym (drop-drop n 8 b) ∙ ap (drop n) e ∙ drop_at codes records n l)
 
-part : (b codes records : List ℕ) (n i : ℕ) → count_in b ≡ n → drop 8 b ≡ codes ++ records → length codes ≡ n → i < length codes →
+part : (b codes records : List ℕ) (n i : ℕ) → event_count b ≡ n → drop 8 b ≡ codes ++ records → length codes ≡ n → i < length codes →
     event_in b i ≡ Some (get_or codes i 0, take 6 (drop (6 * i) records))
 part b codes records n i c e l h =
     let code = code_at b codes records i e h in
-    let bytes = record_at b codes records (count_in b) i e (l ∙ sym c) in
-    within i (count_in b) _ None (omega arith) ∙ (cc (code, bytes))
+    let bytes = record_at b codes records (event_count b) i e (l ∙ sym c) in
+    within i (event_count b) _ None (omega arith) ∙ (cc (code, bytes))
 
 -- an event, by the two arrays
 pub event_at : (n kind chain term : ℕ) (codes records : List ℕ) (i : ℕ) → length codes ≡ n → i < length codes →

@@ -7,25 +7,25 @@ use Rattle.kinds.specs.declared.kind.KindOfShare.{KindOfShare}
 use Rattle.kinds.specs.Bytes.{kind_of_byte}
 use Rattle.book.specs.declared.header.Header.{Header}
 use Rattle.book.specs.Limits.{most_events}
-use Rattle.book.specs.Books.{count_in, with_kind, opening, Enough}
+use Rattle.book.specs.Books.{event_count, with_kind, opening, Enough}
 
 -- what opening says of bytes that are too long for a book, by their count, their kind, and the number that bytes 6 and 7 come to
 abbrev too_long : ℕ → Option KindOfShare → ℕ → Result Header ℕ
 too_long count None rest = if nat_lt most_events count then Err 42 else Err 43
 too_long count (Some kind) rest = if nat_lt most_events count then Err 42 else (if nat_lt 0 rest then Err 44 else Err 45)
 
-of_kind : (b : List ℕ) (kind : Option KindOfShare) → 28680 < length b → (if nat_lt most_events (count_in b) then Err 42 else with_kind b kind) ≡ too_long (count_in b) kind (get_or b 6 0 + 256 * get_or b 7 0)
+of_kind : (b : List ℕ) (kind : Option KindOfShare) → 28680 < length b → (if nat_lt most_events (event_count b) then Err 42 else with_kind b kind) ≡ too_long (event_count b) kind (get_or b 6 0 + 256 * get_or b 7 0)
 of_kind b None h = refl
-of_kind b (Some kind) h = go (nat_lt most_events (count_in b)) refl
+of_kind b (Some kind) h = go (nat_lt most_events (event_count b)) refl
   where
-    go : (t : Bool) → nat_lt most_events (count_in b) ≡ t → (if t then Err 42 else with_kind b (Some kind)) ≡ (if t then Err 42 else (if nat_lt 0 (get_or b 6 0 + 256 * get_or b 7 0) then Err 44 else Err 45))
+    go : (t : Bool) → nat_lt most_events (event_count b) ≡ t → (if t then Err 42 else with_kind b (Some kind)) ≡ (if t then Err 42 else (if nat_lt 0 (get_or b 6 0 + 256 * get_or b 7 0) then Err 44 else Err 45))
     go true e = refl
     go false e =
-        let few = ltb-false most_events (count_in b) e in
-        let n = ne_eqb (length b) (8 + 7 * count_in b) (λ l. omega arith) in
+        let few = ltb-false most_events (event_count b) e in
+        let n = ne_eqb (length b) (8 + 7 * event_count b) (λ l. omega arith) in
         rw n
 
-of_long : (b : List ℕ) → 28680 < length b → opening b ≡ too_long (count_in b) (kind_of_byte (get_or b 2 0)) (get_or b 6 0 + 256 * get_or b 7 0)
+of_long : (b : List ℕ) → 28680 < length b → opening b ≡ too_long (event_count b) (kind_of_byte (get_or b 2 0)) (get_or b 6 0 + 256 * get_or b 7 0)
 of_long b h =
     let e = le-ltb (length b) 8 (omega arith) in
     rw e (of_kind b (kind_of_byte (get_or b 2 0)) h)

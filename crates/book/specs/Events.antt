@@ -5,7 +5,7 @@ use Rattle.book.specs.declared.code.Code.{Code}
 use Rattle.book.specs.declared.reason.BookReason.{BookReason}
 use Rattle.book.specs.Bytes.{number_at}
 use Rattle.book.specs.Codes.{code_of_byte, used}
-use Rattle.book.specs.Told.{number_of}
+use Rattle.book.specs.Numbers.{book_reason_number}
 
 -- the three operands of a record
 abbrev pub operands_of : List ℕ → List ℕ
@@ -22,10 +22,10 @@ with_code None operands = Err 47
 with_code (Some code) operands = with_operands code operands
 
 -- what an event asks for whose code is the byte and whose record has the bytes
-abbrev pub asked : ℕ → List ℕ → Result (Code × List ℕ) ℕ
-asked byte bytes = with_code (code_of_byte byte) (operands_of bytes)
+abbrev pub code_and_operands : ℕ → List ℕ → Result (Code × List ℕ) ℕ
+code_and_operands byte bytes = with_code (code_of_byte byte) (operands_of bytes)
 
 -- an answer of the code, with the number of a refusal
-abbrev pub asked_of : Result (Code × List ℕ) BookReason → Result (Code × List ℕ) ℕ
-asked_of (Ok x) = Ok x
-asked_of (Err reason) = Err (number_of reason)
+abbrev pub code_and_operands_of : Result (Code × List ℕ) BookReason → Result (Code × List ℕ) ℕ
+code_and_operands_of (Ok x) = Ok x
+code_and_operands_of (Err reason) = Err (book_reason_number reason)

@@ -1,5 +1,5 @@
 pub mod Limits
-pub mod Told
+pub mod Numbers
 pub mod Bytes
 pub mod Places
 pub mod Codes

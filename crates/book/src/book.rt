@@ -22,14 +22,14 @@ pub struct Book<'a> {
 
 impl<'a> Book<'a> {
     ghost use Rattle.std.specs.Prelude.{◌+◌, IfOk, IfSome};
-    ghost use Rattle.book.specs.Books.{opening, opened, bytes_of, event_in, event_of};
+    ghost use Rattle.book.specs.Books.{opening, header_or_number, book_bytes, event_in, event_parts};
     ghost use Rattle.book.specs.Places.{further};
 
     // Opens a book, or refuses its bytes by the first rule that they break. A book that opens is all of its bytes, and its two
     // arrays are those very parts of them.
     pub fn open(bytes: &'a [u8]) -> Result<Book<'a>, BookReason>
-        ensures is { opened result ≡ opening bytes.now }
-        ensures whole { IfOk result (λ book. bytes_of book ≡ bytes.now) }
+        ensures is { header_or_number result ≡ opening bytes.now }
+        ensures whole { IfOk result (λ book. book_bytes book ≡ bytes.now) }
         ensures codes { IfOk result (λ book. book.codes.ref_ptr ≡ further bytes.entry.ref_ptr HEADER) }
         ensures records { IfOk result (λ book. book.records.ref_ptr ≡ further bytes.entry.ref_ptr (HEADER + book.header.events)) }
     {
@@ -66,7 +66,7 @@ impl<'a> Book<'a> {
     // Event i of the book, from 0, if there are so many: its record is that very part of the book.
     #[tactic(auto, using(crate::proofs::Parts::event_at))]
     pub fn event(&self, i: usize) -> Option<Event<'a>>
-        ensures is { event_of result ≡ event_in (bytes_of self.now) i }
+        ensures is { event_parts result ≡ event_in (book_bytes self.now) i }
         ensures place { IfSome result (λ event. event.bytes.ref_ptr ≡ further self.now.records.ref_ptr (RECORD * i)) }
     {
         let code = *self.codes.get(i)?;

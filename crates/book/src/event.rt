@@ -14,7 +14,7 @@ pub struct Event<'a> {
 }
 
 impl Event<'_> {
-    ghost use Rattle.book.specs.Events.{operands_of, asked, asked_of};
+    ghost use Rattle.book.specs.Events.{operands_of, code_and_operands, code_and_operands_of};
 
     // The three operands of its record.
     pub fn operands(&self) -> [u16; 3]
@@ -32,7 +32,7 @@ impl Event<'_> {
 
     // What it asks for, with its operands. Refused if no call has its code, or an operand that the call doesn't use is not 0.
     pub fn asked(&self) -> Result<(Code, [u16; 3]), BookReason>
-        ensures { asked_of result ≡ asked self.now.code self.now.bytes.now }
+        ensures { code_and_operands_of result ≡ code_and_operands self.now.code self.now.bytes.now }
     {
         let code = Code::of_byte(self.code).ok_or(BookReason::UnknownCode)?;
         let operands = self.operands();

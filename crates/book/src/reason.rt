@@ -1,5 +1,5 @@
 ghost use Rattle.std.specs.Prelude.{◌≡◌};
-ghost use Rattle.book.specs.Told.{number_of};
+ghost use Rattle.book.specs.Numbers.{book_reason_number};
 
 use thiserror::Error;
 
@@ -29,7 +29,7 @@ pub enum BookReason {
 impl BookReason {
     // Its number.
     pub fn number(self) -> u8
-        ensures { result ≡ number_of self }
+        ensures { result ≡ book_reason_number self }
     {
         self as u8
     }

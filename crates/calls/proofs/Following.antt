@@ -8,8 +8,8 @@ use Rattle.lending.specs.History.{Moment, EachCameTo, yielded, merged, recalled,
 use Rattle.lending.proofs.Plays.{worked_list}
 use Rattle.calls.specs.declared.call.Call.{Call}
 use Rattle.calls.specs.declared.list.Tallies.{Tallies}
-use Rattle.calls.specs.Listed.{Made, SomeOffice, ListMade}
-use Rattle.calls.specs.Played.{Played, ListPlayed}
+use Rattle.calls.specs.Lists.{CallsMade, SomeOffice, ListMade}
+use Rattle.calls.specs.Plays.{CallsPlayed, ListPlayed}
 
 module _ {O S : Type 0} (means : O → State S) (layers : O → Layers S) (ls : Layers S) (follow : (o : O) → Follow (layers o) (means o)) where
   -- a state that an office with these layers stands for follows from them
@@ -21,7 +21,7 @@ module _ {O S : Type 0} (means : O → State S) (layers : O → Layers S) (ls : 
   each_follows (m ∷ ms) each = (follows m.before each.0, each_follows ms each.1)
 
 module _ {O S : Type 0} (K : Kind S) (means : O → State S) (layers : O → Layers S) (ls : Layers S) (follow : (o : O) → Follow (layers o) (means o)) where
-  pub made_is_played : (s : State S) (calls : List Call) (tallies : Tallies) (t : State S) → Follow ls t → Made K (SomeOffice means layers ls) s calls tallies t → Played K ls s calls tallies t
+  pub made_is_played : (s : State S) (calls : List Call) (tallies : Tallies) (t : State S) → Follow ls t → CallsMade K (SomeOffice means layers ls) s calls tallies t → CallsPlayed K ls s calls tallies t
   made_is_played s calls tallies t f made =
       let e = worked_list ls K s made.history t made.leads (each_follows means layers ls follow made.history made.stood) f ∙ ap (play K ls s) made.in_order in
       let ms = ap (λ (x : List (Moment S) × State S). x.0) e in

@@ -14,22 +14,22 @@ use Rattle.lending.specs.History.{Closing, closing, tally, none, one_if_done, it
 use Rattle.lending.specs.History.Closing.{by_yield, by_merge, by_recall, by_day, by_none}
 use Rattle.lending.specs.Promise.{LendingConserved}
 use Rattle.lending.specs.Idle.{idle}
-use Rattle.lending.specs.Told.{meant}
+use Rattle.lending.specs.Answers.{refusal_meant}
 use Rattle.lending.proofs.Plays.{worked_call}
 use Rattle.calls.specs.declared.call.Call.{Call}
 use Rattle.calls.specs.declared.call.Call.TheVariants.{HandIn}
 use Rattle.calls.specs.declared.list.Tallies.{Tallies}
 use Rattle.calls.specs.declared.call.Answer.{Answer}
 use Rattle.calls.specs.declared.call.Answer.TheVariants as answers
-use Rattle.calls.specs.Values.{called, answered}
-use Rattle.calls.specs.Listed.{SomeOffice, ListMade, all_closed, counted}
-use Rattle.calls.specs.Jobs.{meant_if_any, if_refused, is_refused, NoneRefused, EndedBy, one_or_go_on, until_refused, Until, JobDone}
+use Rattle.calls.specs.Values.{call_meant, answer_meant}
+use Rattle.calls.specs.Lists.{SomeOffice, ListMade, all_closed, tallies_with}
+use Rattle.calls.specs.Jobs.{refusal_if_any, if_refused, is_refused, NoneRefused, EndedBy, one_or_go_on, until_refused, Until, JobDone}
 use Rattle.calls.specs.Quiet.{AllIdle}
 use Rattle.calls.proofs.Following.{list_played}
 use Rattle.calls.proofs.Making.{none_made, one_more}
 
 -- a refused call closes nothing
-nothing_more : (S : Type 0) (tallies : Tallies) (c : office.Call) (r : Refusal) → counted {S = S} tallies c (refused r) ≡ tallies
+nothing_more : (S : Type 0) (tallies : Tallies) (c : office.Call) (r : Refusal) → tallies_with {S = S} tallies c (refused r) ≡ tallies
 nothing_more S tallies c r = go (closing c)
   where
     go : (k : Closing) → record { yielded = tallies.yielded + tally {S = S} one_if_done none none none k (refused r); merged = tallies.merged + tally {S = S} none one_if_done none none k (refused r); recalled = tallies.recalled + tally {S = S} none none its_number none k (refused r); lapsed = tallies.lapsed + tally {S = S} none none none its_number k (refused r) } ≡ tallies
@@ -48,7 +48,7 @@ module _ {S : Type 0} where
   unrefused (refused r) f x e = cc
 
   -- what was granted or told
-  pub ok_unrefused : (a : Answer S) → is_refused (answered (Ok a)) ≡ false
+  pub ok_unrefused : (a : Answer S) → is_refused (answer_meant (Ok a)) ≡ false
   ok_unrefused answers.Done = refl
   ok_unrefused (answers.Number n) = refl
   ok_unrefused (answers.Lease l) = refl
@@ -95,7 +95,7 @@ module _ {O S : Type 0} (K : Kind S) (means : O → State S) (layers : O → Lay
   }
 
   -- so many calls and no more
-  until : (calls : List Call) (many : ℕ) (refusal : Option code.Refusal) (tallies : Tallies) (after : O) → many ≤ length calls → (xs : List Call) → xs ≡ take many calls → (made : ListMade K means layers before xs tallies after) → EndedBy refusal made.history → (refusal ≡ None → many ≡ length calls) → (((o : O) → Follow (layers o) (means o)) → (many, meant_if_any refusal) ≡ until_refused K (layers before) (means before) calls) → Until K means layers before calls many refusal tallies after
+  until : (calls : List Call) (many : ℕ) (refusal : Option code.Refusal) (tallies : Tallies) (after : O) → many ≤ length calls → (xs : List Call) → xs ≡ take many calls → (made : ListMade K means layers before xs tallies after) → EndedBy refusal made.history → (refusal ≡ None → many ≡ length calls) → (((o : O) → Follow (layers o) (means o)) → (many, refusal_if_any refusal) ≡ until_refused K (layers before) (means before) calls) → Until K means layers before calls many refusal tallies after
   until calls many refusal tallies after some xs e made ended all known =
       let p = subst (λ (ys : List Call). (m : ListMade K means layers before ys tallies after) × EndedBy refusal m.history) e (made, ended) in
       record { some = some; made = p.0; ended = p.1; all = all; known = known }
@@ -107,16 +107,16 @@ module _ {O S : Type 0} (K : Kind S) (means : O → State S) (layers : O → Lay
       (λ follow. ap (λ (n : ℕ). (n, None)) (omega arith) ∙ sym (so.known follow))
 
   module _ (always : LendingConserved K) (calls : List Call) (many : ℕ) (xs : List Call) (c : Call) (rest : List Call) (tallies : Tallies) (between after : O) (so : SoFar calls many xs (c ∷ rest) tallies between) (same : layers between ≡ layers before) (same' : layers after ≡ layers before) where
-    abbrev more : (a : office.Answer S) → Does K (means between) (called c) a (means after) → ListMade K means layers before (xs ++ (c ∷ [])) (counted tallies (called c) a) after
+    abbrev more : (a : office.Answer S) → Does K (means between) (call_meant c) a (means after) → ListMade K means layers before (xs ++ (c ∷ [])) (tallies_with tallies (call_meant c) a) after
     more a does = one_more K (SomeOffice means layers (layers before)) always (means before) (means between) (means after) xs c a tallies so.made does (between, refl, same)
 
-    worked : (a : office.Answer S) → Does K (means between) (called c) a (means after) → ((o : O) → Follow (layers o) (means o)) → until_refused K (layers before) (means before) calls ≡ after_many many (one_or_go_on a (until_refused K (layers before) (means after) rest))
+    worked : (a : office.Answer S) → Does K (means between) (call_meant c) a (means after) → ((o : O) → Follow (layers o) (means o)) → until_refused K (layers before) (means before) calls ≡ after_many many (one_or_go_on a (until_refused K (layers before) (means after) rest))
     worked a does follow =
-        let w = worked_call (layers before) (perform K (means between) (called c)) (means between) (means after) a (subst (λ (l : Layers S). Follow l (means after)) same' (follow after)) does in
+        let w = worked_call (layers before) (perform K (means between) (call_meant c)) (means between) (means after) a (subst (λ (l : Layers S). Follow l (means after)) same' (follow after)) does in
         so.known follow ∙ ap₂ (λ (b : office.Answer S) (t : State S). after_many many (one_or_go_on b (until_refused K (layers before) t rest))) (sym w.0) (sym w.1)
 
     -- one call more, which was not refused
-    pub one_so_far : (a : office.Answer S) → Does K (means between) (called c) a (means after) → is_refused a ≡ false → SoFar calls (many + 1) (xs ++ (c ∷ [])) rest (counted tallies (called c) a) after
+    pub one_so_far : (a : office.Answer S) → Does K (means between) (call_meant c) a (means after) → is_refused a ≡ false → SoFar calls (many + 1) (xs ++ (c ∷ [])) rest (tallies_with tallies (call_meant c) a) after
     one_so_far a does e = record {
       made = more a does;
       unrefused = (e, so.unrefused);
@@ -126,7 +126,7 @@ module _ {O S : Type 0} (K : Kind S) (means : O → State S) (layers : O → Lay
     }
 
     -- one call more, which was refused
-    pub stopped : (r : code.Refusal) → Does K (means between) (called c) (refused (meant r)) (means after) → many < length calls → xs ++ (c ∷ []) ≡ take (many + 1) calls → Until K means layers before calls (many + 1) (Some r) tallies after
-    stopped r does here e = subst (λ (t : Tallies). Until K means layers before calls (many + 1) (Some r) t after) (nothing_more S tallies (called c) (meant r))
-        (until calls (many + 1) (Some r) (counted tallies (called c) (refused (meant r))) after (omega arith) (xs ++ (c ∷ [])) e (more (refused (meant r)) does) (refl, so.unrefused) (λ n. cc)
-        (λ follow. ap (λ (n : ℕ). (n, Some (meant r))) (omega arith) ∙ sym (worked (refused (meant r)) does follow)))
+    pub stopped : (r : code.Refusal) → Does K (means between) (call_meant c) (refused (refusal_meant r)) (means after) → many < length calls → xs ++ (c ∷ []) ≡ take (many + 1) calls → Until K means layers before calls (many + 1) (Some r) tallies after
+    stopped r does here e = subst (λ (t : Tallies). Until K means layers before calls (many + 1) (Some r) t after) (nothing_more S tallies (call_meant c) (refusal_meant r))
+        (until calls (many + 1) (Some r) (tallies_with tallies (call_meant c) (refused (refusal_meant r))) after (omega arith) (xs ++ (c ∷ [])) e (more (refused (refusal_meant r)) does) (refl, so.unrefused) (λ n. cc)
+        (λ follow. ap (λ (n : ℕ). (n, Some (refusal_meant r))) (omega arith) ∙ sym (worked (refused (refusal_meant r)) does follow)))

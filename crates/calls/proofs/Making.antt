@@ -14,8 +14,8 @@ use Rattle.lending.proofs.Histories.{leads_on}
 use Rattle.office.specs.Lawful.{Lawful}
 use Rattle.calls.specs.declared.call.Call.{Call}
 use Rattle.calls.specs.declared.list.Tallies.{Tallies}
-use Rattle.calls.specs.Values.{called}
-use Rattle.calls.specs.Listed.{Made, all_closed, TooLarge, counted}
+use Rattle.calls.specs.Values.{call_meant}
+use Rattle.calls.specs.Lists.{CallsMade, all_closed, TooLarge, tallies_with}
 
 -- tallies that are few in all are counted
 pub few_fit : (r : Option Tallies) (t : Tallies) → MatchOption r (TooLarge t) (λ after. after ≡ t) → all_closed t < 2 ^ 64 → r ≡ Some t
@@ -24,7 +24,7 @@ few_fit (Some after) t m few = ap Some m
 
 module _ {S : Type 0} (K : Kind S) (Of : State S → Type 0) where
   -- before the first call
-  abbrev pub none_made : LendingConserved K → (s : State S) (tallies : Tallies) → all_closed tallies ≡ 0 → Made K Of s [] tallies s
+  abbrev pub none_made : LendingConserved K → (s : State S) (tallies : Tallies) → all_closed tallies ≡ 0 → CallsMade K Of s [] tallies s
   none_made always s tallies none = record {
     history = [];
     in_order = refl;
@@ -39,13 +39,13 @@ module _ {S : Type 0} (K : Kind S) (Of : State S → Type 0) where
   }
 
   -- one call more
-  abbrev pub one_more : LendingConserved K → (s t u : State S) (calls : List Call) (call : Call) (a : office.Answer S) (tallies : Tallies) → Made K Of s calls tallies t → Does K t (called call) a u → Of t → Made K Of s (calls ++ (call ∷ [])) (counted tallies (called call) a) u
+  abbrev pub one_more : LendingConserved K → (s t u : State S) (calls : List Call) (call : Call) (a : office.Answer S) (tallies : Tallies) → CallsMade K Of s calls tallies t → Does K t (call_meant call) a u → Of t → CallsMade K Of s (calls ++ (call ∷ [])) (tallies_with tallies (call_meant call) a) u
   one_more always s t u calls call a tallies made does here =
-      let ms : List (Moment S) = record { before = t; call = called call; answer = a } ∷ made.history in
+      let ms : List (Moment S) = record { before = t; call = call_meant call; answer = a } ∷ made.history in
       let leads : Leads K s ms u = (made.leads, does) in
       record {
         history = ms;
-        in_order = ap (λ cs. called call ∷ cs) made.in_order ∙ sym (ap reverse (map-append called calls (call ∷ [])) ∙ reverse-append (map called calls) (called call ∷ []));
+        in_order = ap (λ cs. call_meant call ∷ cs) made.in_order ∙ sym (ap reverse (map-append call_meant calls (call ∷ [])) ∙ reverse-append (map call_meant calls) (call_meant call ∷ []));
         leads = leads;
         stood = (here, made.stood);
         yields = let e = made.yields in omega arith;
@@ -57,7 +57,7 @@ module _ {S : Type 0} (K : Kind S) (Of : State S → Type 0) where
       }
 
   -- what some calls closed was live when they began, or was issued by them
-  pub few_closed : (s t : State S) (rows rows' : List (Lease S)) → Lawful s rows → Lawful t rows' → (calls : List Call) (tallies : Tallies) → Made K Of s calls tallies t → all_closed tallies ≤ most_rows + last_number
+  pub few_closed : (s t : State S) (rows rows' : List (Lease S)) → Lawful s rows → Lawful t rows' → (calls : List Call) (tallies : Tallies) → CallsMade K Of s calls tallies t → all_closed tallies ≤ most_rows + last_number
   few_closed s t rows rows' l l' calls tallies made =
       let h = list_counts K s t made.history made.leads in
       let a = made.yields in let b = made.merges in let c = made.recalls in let d = made.lapses in

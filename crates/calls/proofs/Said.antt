@@ -2,7 +2,7 @@
 use Rattle.std.proofs.Common.{◌≡◌, ℕ, ◌↔◌, List, [], ◌∷◌, drop, get_or, refl, sym, ap, ◌∙◌, subst, None, Option, Ok, Err, Result, IsErr, IfOk}
 use Rattle.calls.specs.declared.call.Call.{Call}
 use Rattle.calls.specs.declared.call.Call.TheVariants.{Open, Delegate, Yield, Merge, Assign, SetDay, Count, Issued, Today, LeaseAt, LeaseOf, Recall, Day, Standing, HandIn}
-use Rattle.calls.specs.Written.{name_of, numbers_of}
+use Rattle.calls.specs.Written.{call_name, call_numbers}
 use Rattle.calls.specs.Reading.{words_of, SayNumbers, SayCall, Reads, first, first_three}
 use Rattle.calls.proofs.Numbers.{IsRead, not_ok}
 
@@ -16,8 +16,8 @@ stuck r words left read failed numbers h = not_ok (first numbers) r failed ((rea
 pub passed : {E : Type 0} (r : Result (Option ℕ) E) (words left : List (List ℕ)) → IsRead words r left → SayNone left → SayNone words
 passed r words left read none numbers h = none (drop 1 numbers) ((read numbers).0 h).1
 
-named : (words left : List (List ℕ)) (word : List ℕ) → words ≡ word ∷ left → (call : Call) → SayCall words call ↔ ((word ≡ name_of call) × SayNumbers left (numbers_of call))
-named words left word e call = subst (λ l. SayCall l call ↔ ((word ≡ name_of call) × SayNumbers left (numbers_of call))) (sym e) (λ h. h, λ h. h)
+named : (words left : List (List ℕ)) (word : List ℕ) → words ≡ word ∷ left → (call : Call) → SayCall words call ↔ ((word ≡ call_name call) × SayNumbers left (call_numbers call))
+named words left word e call = subst (λ l. SayCall l call ↔ ((word ≡ call_name call) × SayNumbers left (call_numbers call))) (sym e) (λ h. h, λ h. h)
 
 -- a text that says no call is refused
 refused : {E : Type 0} (text : List ℕ) (answer : Result Call E) → IsErr answer → ((call : Call) → SayCall (words_of text) call → ⊥) → Reads text answer
@@ -27,10 +27,10 @@ pub no_name : {E : Type 0} (text : List ℕ) (answer : Result Call E) → IsErr 
 no_name text answer failed e = refused text answer failed (λ call h. subst (λ l. SayCall l call) e h)
 
 pub no_numbers : {E : Type 0} (text word : List ℕ) (left : List (List ℕ)) (answer : Result Call E) → IsErr answer → words_of text ≡ word ∷ left → SayNone left → Reads text answer
-no_numbers text word left answer failed e none = refused text answer failed (λ call h. none (numbers_of call) ((named (words_of text) left word e call).0 h).1)
+no_numbers text word left answer failed e none = refused text answer failed (λ call h. none (call_numbers call) ((named (words_of text) left word e call).0 h).1)
 
 -- no call has four numbers
-no_fourth : (call : Call) → drop 1 (drop 1 (drop 1 (numbers_of call))) ≡ []
+no_fourth : (call : Call) → drop 1 (drop 1 (drop 1 (call_numbers call))) ≡ []
 no_fourth (Open r h) = refl
 no_fourth (Delegate l h d) = refl
 no_fourth (Yield l) = refl
@@ -49,11 +49,11 @@ no_fourth (HandIn l) = refl
 
 module _ {F : Type 0} (text word : List ℕ) (one two three four : List (List ℕ)) (r s t : Result (Option ℕ) F) (name : words_of text ≡ word ∷ one) (a : IsRead one r two) (b : IsRead two s three) (c : IsRead three t four) where
   -- four words are a name and three numbers
-  said : (call : Call) → let numbers = numbers_of call in
-      SayCall (words_of text) call ↔ ((word ≡ name_of call) × (r ≡ Ok (first numbers)) × (s ≡ Ok (first (drop 1 numbers))) × (t ≡ Ok (first (drop 1 (drop 1 numbers)))) × SayNumbers four [])
+  said : (call : Call) → let numbers = call_numbers call in
+      SayCall (words_of text) call ↔ ((word ≡ call_name call) × (r ≡ Ok (first numbers)) × (s ≡ Ok (first (drop 1 numbers))) × (t ≡ Ok (first (drop 1 (drop 1 numbers)))) × SayNumbers four [])
   said call =
       let n = named (words_of text) one word name call in
-      let numbers = numbers_of call in (
+      let numbers = call_numbers call in (
         λ h. let i = n.0 h in let j = (a numbers).0 i.1 in let k = (b (drop 1 numbers)).0 j.1 in let l = (c (drop 1 (drop 1 numbers))).0 k.1 in
             (i.0, j.0, k.0, l.0, subst (SayNumbers four) (no_fourth call) l.1),
         λ h. n.1 (h.0, (a numbers).1 (h.1, (b (drop 1 numbers)).1 (h.2, (c (drop 1 (drop 1 numbers))).1 (h.3, subst (SayNumbers four) (sym (no_fourth call)) h.4)))),
@@ -68,10 +68,10 @@ module _ {F : Type 0} (text word : List ℕ) (one two three four : List (List �
       none_said (word ∷ words) h = absurd h
 
   -- no word too many
-  pub just : {E : Type 0} (x y z : Option ℕ) (answer : Result Call E) → r ≡ Ok x → s ≡ Ok y → t ≡ Ok z → four ≡ [] → ((call : Call) → word ≡ name_of call → x ∷ y ∷ z ∷ [] ≡ first_three (numbers_of call) → answer ≡ Ok call) → IfOk answer (λ call. (word ≡ name_of call) × (x ∷ y ∷ z ∷ [] ≡ first_three (numbers_of call))) → Reads text answer
+  pub just : {E : Type 0} (x y z : Option ℕ) (answer : Result Call E) → r ≡ Ok x → s ≡ Ok y → t ≡ Ok z → four ≡ [] → ((call : Call) → word ≡ call_name call → x ∷ y ∷ z ∷ [] ≡ first_three (call_numbers call) → answer ≡ Ok call) → IfOk answer (λ call. (word ≡ call_name call) × (x ∷ y ∷ z ∷ [] ≡ first_three (call_numbers call))) → Reads text answer
   just x y z answer p q o e named_so only call = (
     λ is.
-        let h = subst (λ k. IfOk k (λ call. (word ≡ name_of call) × (x ∷ y ∷ z ∷ [] ≡ first_three (numbers_of call)))) is only in
+        let h = subst (λ k. IfOk k (λ call. (word ≡ call_name call) × (x ∷ y ∷ z ∷ [] ≡ first_three (call_numbers call)))) is only in
         (said call).1 (h.0, p ∙ ap (λ l. Ok (get_or l 0 None)) h.1, q ∙ ap (λ l. Ok (get_or l 1 None)) h.1, o ∙ ap (λ l. Ok (get_or l 2 None)) h.1, subst (λ l. SayNumbers l []) (sym e) tt),
     λ h.
         let k = (said call).0 h in

@@ -14,7 +14,7 @@ use Rattle.std.specs.Str.{NonePass}
 use Rattle.std.specs.Str.Parse.{AllDigits, IsNumeral, without_leading_plus, digits_value}
 use Rattle.calls.specs.declared.call.Call.{Call}
 use Rattle.calls.specs.declared.call.Call.TheVariants.{Open, Delegate, Yield, Merge, Assign, SetDay, Count, Issued, Today, LeaseAt, LeaseOf, Recall, Day, Standing, HandIn}
-use Rattle.calls.specs.Written.{name_of, numbers_of, numbered, written}
+use Rattle.calls.specs.Written.{call_name, call_numbers, numbers_text, call_text}
 use Rattle.calls.specs.Reading.{with_word, words_from, words_of, SaysNumber, SayNumbers, SayCall, Reads, Fit, ReadsBack}
 use Rattle.calls.proofs.Words.{gathered, ended, some_word}
 
@@ -49,7 +49,7 @@ tested (b ∷ bs) e =
     not_true true e = sym e
     not_true false e = refl
 
-name_plain : (call : Call) → Plain (name_of call)
+name_plain : (call : Call) → Plain (call_name call)
 name_plain (Open r h) = tested (codes "open") refl
 name_plain (Delegate l h d) = tested (codes "delegate") refl
 name_plain (Yield l) = tested (codes "yield") refl
@@ -66,7 +66,7 @@ name_plain (Day d) = tested (codes "day") refl
 name_plain (Standing r h) = tested (codes "standing") refl
 name_plain (HandIn l) = tested (codes "hand_in") refl
 
-name_some : (call : Call) → 0 < length (name_of call)
+name_some : (call : Call) → 0 < length (call_name call)
 name_some (Open r h) = omega arith
 name_some (Delegate l h d) = omega arith
 name_some (Yield l) = omega arith
@@ -108,42 +108,42 @@ decimals_say [] f = tt
 decimals_say (n ∷ ns) f = (decimal_says n (f 0 0 (omega arith)), decimals_say ns (λ k d l. f (suc k) d (omega (arith, l))))
 
 -- a plain word comes off before numbers
-word_before : (w ns : List ℕ) → Plain w → 0 < length w → words_from [] (w ++ numbered ns) ≡ w ∷ words_from [] (numbered ns)
+word_before : (w ns : List ℕ) → Plain w → 0 < length w → words_from [] (w ++ numbers_text ns) ≡ w ∷ words_from [] (numbers_text ns)
 word_before w ns p some =
-    gathered [] w (numbered ns) (plain_solid w p) ∙ ap (λ v. words_from v (numbered ns)) (plain_same w p)
-    ∙ stops ns ∙ some_word w (words_from [] (numbered ns)) some
+    gathered [] w (numbers_text ns) (plain_solid w p) ∙ ap (λ v. words_from v (numbers_text ns)) (plain_same w p)
+    ∙ stops ns ∙ some_word w (words_from [] (numbers_text ns)) some
   where
-    stops : (ns : List ℕ) → words_from w (numbered ns) ≡ with_word w (words_from [] (numbered ns))
+    stops : (ns : List ℕ) → words_from w (numbers_text ns) ≡ with_word w (words_from [] (numbers_text ns))
     stops [] = refl
-    stops (n ∷ ns) = ended w 32 (decimal n ++ numbered ns) refl
+    stops (n ∷ ns) = ended w 32 (decimal n ++ numbers_text ns) refl
 
-number_words : (ns : List ℕ) → Fit ns → words_from [] (numbered ns) ≡ map decimal ns
+number_words : (ns : List ℕ) → Fit ns → words_from [] (numbers_text ns) ≡ map decimal ns
 number_words [] f = refl
 number_words (n ∷ ns) f =
     let h = (decimal_numeral n (f 0 0 (omega arith))).0 in
     word_before (decimal n) ns (digits_plain (decimal n) h.1) h.0
     ∙ ap (λ ws. decimal n ∷ ws) (number_words ns (λ k d l. f (suc k) d (omega (arith, l))))
 
-numbered_same : (ns : List ℕ) → Fit ns → encodes (numbered ns) ≡ numbered ns
+numbered_same : (ns : List ℕ) → Fit ns → encodes (numbers_text ns) ≡ numbers_text ns
 numbered_same [] f = refl
 numbered_same (n ∷ ns) f =
     let h = (decimal_numeral n (f 0 0 (omega arith))).0 in
-    ap (λ l. l ++ encodes (decimal n ++ numbered ns)) (encode_ascii 32 (omega arith))
-    ∙ ap (λ l. 32 ∷ l) (encodes-append (decimal n) (numbered ns)
+    ap (λ l. l ++ encodes (decimal n ++ numbers_text ns)) (encode_ascii 32 (omega arith))
+    ∙ ap (λ l. 32 ∷ l) (encodes-append (decimal n) (numbers_text ns)
     ∙ (λ i. plain_same (decimal n) (digits_plain (decimal n) h.1) i ++ numbered_same ns (λ k d l. f (suc k) d (omega (arith, l))) i))
 
-written_same : (call : Call) → Fit (numbers_of call) → encodes (written call) ≡ written call
+written_same : (call : Call) → Fit (call_numbers call) → encodes (call_text call) ≡ call_text call
 written_same call f =
-    encodes-append (name_of call) (numbered (numbers_of call))
-    ∙ (λ i. plain_same (name_of call) (name_plain call) i ++ numbered_same (numbers_of call) f i)
+    encodes-append (call_name call) (numbers_text (call_numbers call))
+    ∙ (λ i. plain_same (call_name call) (name_plain call) i ++ numbered_same (call_numbers call) f i)
 
-written_says : (text : List ℕ) (call : Call) → IsUtf8 text → Fit (numbers_of call) → text ≡ written call → SayCall (words_of text) call
+written_says : (text : List ℕ) (call : Call) → IsUtf8 text → Fit (call_numbers call) → text ≡ call_text call → SayCall (words_of text) call
 written_says text call u f e =
     subst (λ ws. SayCall ws call)
-    (sym (ap (words_from []) (sym (chars_from_encodes (written call) text u (written_same call f ∙ sym e)))
-    ∙ word_before (name_of call) (numbers_of call) (name_plain call) (name_some call)
-    ∙ ap (λ ws. name_of call ∷ ws) (number_words (numbers_of call) f)))
-    (refl, decimals_say (numbers_of call) f)
+    (sym (ap (words_from []) (sym (chars_from_encodes (call_text call) text u (written_same call f ∙ sym e)))
+    ∙ word_before (call_name call) (call_numbers call) (name_plain call) (name_some call)
+    ∙ ap (λ ws. call_name call ∷ ws) (number_words (call_numbers call) f)))
+    (refl, decimals_say (call_numbers call) f)
 
 -- so a reader that reads as it should reads them back
 pub reads_back : {E : Type 0} (text : List ℕ) (answer : Result Call E) → IsUtf8 text → Reads text answer → Reads text answer × ReadsBack text answer

@@ -8,21 +8,21 @@ use Rattle.lending.specs.Outcome as office
 use Rattle.lending.specs.Outcome.Call.{hand_in}
 use Rattle.lending.specs.Outcome.Answer.{done, number, lease, share, refused}
 use Rattle.lending.specs.Perform.{perform, Does}
-use Rattle.lending.specs.Play.{answer_of, state_after}
+use Rattle.lending.specs.Play.{outcome_answer, state_after}
 use Rattle.lending.specs.History.{Moment}
-use Rattle.lending.specs.Told.{meant}
+use Rattle.lending.specs.Answers.{refusal_meant}
 use Rattle.calls.specs.declared.call.Call.{Call}
 use Rattle.calls.specs.declared.call.Call.TheVariants.{HandIn}
 use Rattle.calls.specs.declared.list.Tallies.{Tallies}
 use Rattle.calls.specs.declared.job.Job.{Job}
-use Rattle.calls.specs.Values.{called}
-use Rattle.calls.specs.Listed.{ListMade, counted}
-use Rattle.calls.specs.Played.{ListPlayed}
+use Rattle.calls.specs.Values.{call_meant}
+use Rattle.calls.specs.Lists.{ListMade, tallies_with}
+use Rattle.calls.specs.Plays.{ListPlayed}
 
 -- a refusal that may be none, as the rules have it
-abbrev pub meant_if_any : Option code.Refusal → Option Refusal
-meant_if_any None = None
-meant_if_any (Some r) = Some (meant r)
+abbrev pub refusal_if_any : Option code.Refusal → Option Refusal
+refusal_if_any None = None
+refusal_if_any (Some r) = Some (refusal_meant r)
 
 module _ {S : Type 0} where
   -- by the refusal that was answered; otherwise x
@@ -45,7 +45,7 @@ module _ {S : Type 0} where
   abbrev pub EndedBy : Option code.Refusal → List (Moment S) → Type 0
   EndedBy None ms = NoneRefused ms
   EndedBy (Some r) [] = ⊥
-  EndedBy (Some r) (m ∷ ms) = (m.answer ≡ refused (meant r)) × NoneRefused ms
+  EndedBy (Some r) (m ∷ ms) = (m.answer ≡ refused (refusal_meant r)) × NoneRefused ms
 
   -- a call more that was made, unless the call itself was refused
   abbrev pub one_or_go_on : office.Answer S → ℕ × Option Refusal → ℕ × Option Refusal
@@ -54,7 +54,7 @@ module _ {S : Type 0} where
   -- how many of some calls are made until one is refused, and its refusal, at an office with these layers that stands for s
   abbrev pub until_refused : Kind S → Layers S → State S → List Call → ℕ × Option Refusal
   until_refused K layers s [] = (0, None)
-  until_refused K layers s (c ∷ cs) = let o = perform K s (called c) in one_or_go_on (answer_of o) (until_refused K layers (state_after layers o s) cs)
+  until_refused K layers s (c ∷ cs) = let o = perform K s (call_meant c) in one_or_go_on (outcome_answer o) (until_refused K layers (state_after layers o s) cs)
 
 module _ {O S : Type 0} (K : Kind S) (means : O → State S) (layers : O → Layers S) (before : O) where
   -- Of some calls the first so many were made, up to the one that was refused, or all: they led to the office after.
@@ -64,7 +64,7 @@ module _ {O S : Type 0} (K : Kind S) (means : O → State S) (layers : O → Lay
     pub ended : EndedBy refusal made.history
     pub all : refusal ≡ None → many ≡ length calls
     -- where objections follow from the layers it is worked out how many
-    pub known : ((o : O) → Follow (layers o) (means o)) → (many, meant_if_any refusal) ≡ until_refused K (layers before) (means before) calls
+    pub known : ((o : O) → Follow (layers o) (means o)) → (many, refusal_if_any refusal) ≡ until_refused K (layers before) (means before) calls
 
   -- A job did some calls until one was refused, and then handed in a slip for the lease.
   pub record JobDone (lease : ℕ) (calls : List Call) (job : Job) (after : O) : Type 0 where
@@ -73,7 +73,7 @@ module _ {O S : Type 0} (K : Kind S) (means : O → State S) (layers : O → Lay
     pub calls_made : Until calls job.made job.refusal job.tallies between
     pub handed_in : Does K (means between) (hand_in lease) (number job.closed) (means after)
     -- all of it is one list of calls, and one history: that of the calls with the hand-in after them
-    pub made : ListMade K means layers before (take job.made calls ++ (HandIn lease ∷ [])) (counted {S = S} job.tallies (hand_in lease) (number job.closed)) after
+    pub made : ListMade K means layers before (take job.made calls ++ (HandIn lease ∷ [])) (tallies_with {S = S} job.tallies (hand_in lease) (number job.closed)) after
     pub one_history : made.history ≡ record { before = means between; call = hand_in lease; answer = number job.closed } ∷ calls_made.made.history
     -- where objections follow from the layers, it is played
-    pub played : ListPlayed K means layers before (take job.made calls ++ (HandIn lease ∷ [])) (counted {S = S} job.tallies (hand_in lease) (number job.closed)) after
+    pub played : ListPlayed K means layers before (take job.made calls ++ (HandIn lease ∷ [])) (tallies_with {S = S} job.tallies (hand_in lease) (number job.closed)) after

@@ -1,7 +1,7 @@
 pub mod Values
 pub mod Written
 pub mod Reading
-pub mod Listed
-pub mod Played
+pub mod Lists
+pub mod Plays
 pub mod Quiet
 pub mod Jobs

@@ -5,8 +5,8 @@ use Rattle.lending.specs.Office.{State}
 use Rattle.lending.specs.Perform.{perform}
 use Rattle.lending.specs.Idle.{idle}
 use Rattle.calls.specs.declared.call.Call.{Call}
-use Rattle.calls.specs.Values.{called}
+use Rattle.calls.specs.Values.{call_meant}
 
 -- at an office that stands for s each of the calls is refused, or only tells something
 abbrev pub AllIdle : {S : Type 0} → Kind S → State S → List Call → Type 0
-AllIdle K s calls = All (λ call. idle (perform K s (called call)) ≡ true) calls
+AllIdle K s calls = All (λ call. idle (perform K s (call_meant call)) ≡ true) calls

@@ -3,7 +3,7 @@ use Rattle.std.specs.Prelude.{◌≡◌, ℕ, ◌<◌, ◌^◌, ◌↔◌, ⊤, 
 use Rattle.std.specs.Char.{is_whitespace}
 use Rattle.std.specs.Str.Parse.{IsNumeral, digits_value, without_leading_plus}
 use Rattle.calls.specs.declared.call.Call.{Call}
-use Rattle.calls.specs.Written.{name_of, numbers_of, written}
+use Rattle.calls.specs.Written.{call_name, call_numbers, call_text}
 
 -- a word and the words after it, or these alone where the word has no character
 abbrev pub with_word : List ℕ → List (List ℕ) → List (List ℕ)
@@ -33,7 +33,7 @@ SayNumbers (word ∷ words) (n ∷ numbers) = SaysNumber word n × SayNumbers wo
 -- The words say the call: its name, and after it each of its numbers.
 abbrev pub SayCall : List (List ℕ) → Call → Type 0
 SayCall [] call = ⊥
-SayCall (word ∷ words) call = (word ≡ name_of call) × SayNumbers words (numbers_of call)
+SayCall (word ∷ words) call = (word ≡ call_name call) × SayNumbers words (call_numbers call)
 
 -- A call is read just where the words of the text say that call, so that any other text is refused.
 abbrev pub Reads : {E : Type 0} → List ℕ → Result Call E → Type 0
@@ -45,7 +45,7 @@ Fit numbers = All (λ n. n < 2 ^ 16) numbers
 
 -- What is read of a call as it is written is that call.
 abbrev pub ReadsBack : {E : Type 0} → List ℕ → Result Call E → Type 0
-ReadsBack text answer = (call : Call) → Fit (numbers_of call) → text ≡ written call → answer ≡ Ok call
+ReadsBack text answer = (call : Call) → Fit (call_numbers call) → text ≡ call_text call → answer ≡ Ok call
 
 -- the first number, if there is one
 abbrev pub first : List ℕ → Option ℕ

@@ -1,5 +1,5 @@
 ghost use Rattle.std.specs.Prelude.{Some};
-ghost use Rattle.calls.specs.Written.{written};
+ghost use Rattle.calls.specs.Written.{call_text};
 
 use lending::Lease;
 use std::fmt;
@@ -26,7 +26,7 @@ pub enum Call {
 
 // The call as it is written: its name and its numbers, with blanks between.
 impl fmt::Display for Call {
-    ghost output = { λ call. Some (written call) };
+    ghost output = { λ call. Some (call_text call) };
 
     fn fmt<W: fmt::Write>(&self, f: &mut fmt::Formatter<W>) -> fmt::Result {
         match *self {

@@ -3,9 +3,9 @@ ghost use Rattle.std.specs.Prelude.{◌≡◌, MatchOption};
 ghost use Rattle.lending.specs.Choice.{ListsLeaveNoChoice};
 ghost use Rattle.lending.specs.Promise.{LendingConserved};
 ghost use Rattle.office.specs.Lawful.{unused};
-ghost use Rattle.calls.specs.Values.{called, answered};
-ghost use Rattle.calls.specs.Listed.{ListMade, TooLarge, counted};
-ghost use Rattle.calls.specs.Played.{ListPlayed};
+ghost use Rattle.calls.specs.Values.{call_meant, answer_meant};
+ghost use Rattle.calls.specs.Lists.{ListMade, TooLarge, tallies_with};
+ghost use Rattle.calls.specs.Plays.{ListPlayed};
 ghost use Rattle.calls.specs.Quiet.{AllIdle};
 
 use crate::call::{Answer, Call};
@@ -30,7 +30,7 @@ impl Tallies {
         call: Call,
         answer: Result<Answer<S>, Refusal>,
     ) -> Option<Tallies>
-        ensures { MatchOption result (TooLarge (counted self (called call) (answered answer))) (λ after. after ≡ counted self (called call) (answered answer)) }
+        ensures { MatchOption result (TooLarge (tallies_with self (call_meant call) (answer_meant answer))) (λ after. after ≡ tallies_with self (call_meant call) (answer_meant answer)) }
     {
         Some(match (call, answer) {
             (Call::Yield { .. }, Ok(Answer::Done)) => Tallies {

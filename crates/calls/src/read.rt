@@ -2,7 +2,7 @@
 ghost use Rattle.std.specs.Prelude.{◌≡◌, ℕ, ◌↔◌, List, [], ◌∷◌, drop, Ok, IsOk, IfOk, OnErr, IsUtf8};
 ghost use Rattle.std.specs.Str.Iter.{split_whitespace_rest};
 ghost use Rattle.calls.specs.declared.call.Call.{Call};
-ghost use Rattle.calls.specs.Written.{name_of, numbers_of};
+ghost use Rattle.calls.specs.Written.{call_name, call_numbers};
 ghost use Rattle.calls.specs.Reading.{words_of, SaysNumber, SayNumbers, Reads, ReadsBack, first, first_three};
 
 use crate::call::Call;
@@ -76,8 +76,8 @@ fn no_word_left(words: &mut SplitWhitespace) -> Result<(), NotACall>
 
 // The call with this name and these numbers.
 fn call_of(name: &str, numbers: [Option<u16>; 3]) -> Result<Call, NotACall>
-    ensures named { (call : Call) → name.now ≡ name_of call → numbers ≡ first_three (numbers_of call) → result ≡ Ok call }
-    ensures only { IfOk result (λ call. (name.now ≡ name_of call) × (numbers ≡ first_three (numbers_of call))) }
+    ensures named { (call : Call) → name.now ≡ call_name call → numbers ≡ first_three (call_numbers call) → result ≡ Ok call }
+    ensures only { IfOk result (λ call. (name.now ≡ call_name call) × (numbers ≡ first_three (call_numbers call))) }
 {
     match numbers {
         [None, None, None] => bare_call(name),
@@ -90,8 +90,8 @@ fn call_of(name: &str, numbers: [Option<u16>; 3]) -> Result<Call, NotACall>
 
 // The call with this name and no number.
 fn bare_call(name: &str) -> Result<Call, NotACall>
-    ensures named { (call : Call) → name.now ≡ name_of call → numbers_of call ≡ [] → result ≡ Ok call }
-    ensures only { IfOk result (λ call. (name.now ≡ name_of call) × (numbers_of call ≡ [])) }
+    ensures named { (call : Call) → name.now ≡ call_name call → call_numbers call ≡ [] → result ≡ Ok call }
+    ensures only { IfOk result (λ call. (name.now ≡ call_name call) × (call_numbers call ≡ [])) }
 {
     Ok(match name {
         "count" => Call::Count,
@@ -103,8 +103,8 @@ fn bare_call(name: &str) -> Result<Call, NotACall>
 
 // The call with this name and one number.
 fn call_of_one(name: &str, n: u16) -> Result<Call, NotACall>
-    ensures named { (call : Call) → name.now ≡ name_of call → numbers_of call ≡ n ∷ [] → result ≡ Ok call }
-    ensures only { IfOk result (λ call. (name.now ≡ name_of call) × (numbers_of call ≡ n ∷ [])) }
+    ensures named { (call : Call) → name.now ≡ call_name call → call_numbers call ≡ n ∷ [] → result ≡ Ok call }
+    ensures only { IfOk result (λ call. (name.now ≡ call_name call) × (call_numbers call ≡ n ∷ [])) }
 {
     Ok(match name {
         "yield" => Call::Yield { lease: n },
@@ -120,8 +120,8 @@ fn call_of_one(name: &str, n: u16) -> Result<Call, NotACall>
 
 // The call with this name and two numbers.
 fn call_of_two(name: &str, a: u16, b: u16) -> Result<Call, NotACall>
-    ensures named { (call : Call) → name.now ≡ name_of call → numbers_of call ≡ a ∷ b ∷ [] → result ≡ Ok call }
-    ensures only { IfOk result (λ call. (name.now ≡ name_of call) × (numbers_of call ≡ a ∷ b ∷ [])) }
+    ensures named { (call : Call) → name.now ≡ call_name call → call_numbers call ≡ a ∷ b ∷ [] → result ≡ Ok call }
+    ensures only { IfOk result (λ call. (name.now ≡ call_name call) × (call_numbers call ≡ a ∷ b ∷ [])) }
 {
     Ok(match name {
         "open" => Call::Open {
@@ -143,8 +143,8 @@ fn call_of_two(name: &str, a: u16, b: u16) -> Result<Call, NotACall>
 
 // The call with this name and three numbers.
 fn call_of_three(name: &str, a: u16, b: u16, c: u16) -> Result<Call, NotACall>
-    ensures named { (call : Call) → name.now ≡ name_of call → numbers_of call ≡ a ∷ b ∷ c ∷ [] → result ≡ Ok call }
-    ensures only { IfOk result (λ call. (name.now ≡ name_of call) × (numbers_of call ≡ a ∷ b ∷ c ∷ [])) }
+    ensures named { (call : Call) → name.now ≡ call_name call → call_numbers call ≡ a ∷ b ∷ c ∷ [] → result ≡ Ok call }
+    ensures only { IfOk result (λ call. (name.now ≡ call_name call) × (call_numbers call ≡ a ∷ b ∷ c ∷ [])) }
 {
     Ok(match name {
         "delegate" => Call::Delegate {

@@ -3,9 +3,9 @@ ghost use Rattle.lending.specs.Perform.{perform, Does};
 ghost use Rattle.lending.specs.Choice.{CallsLeaveNoChoice};
 ghost use Rattle.lending.specs.Idle.{idle};
 ghost use Rattle.lending.specs.Promise.{LendingConserved, CallConserves};
-ghost use Rattle.lending.specs.Told.{told_number};
+ghost use Rattle.lending.specs.Answers.{number_or_refused};
 ghost use Rattle.office.specs.Lawful.{unused};
-ghost use Rattle.calls.specs.Values.{called, answered};
+ghost use Rattle.calls.specs.Values.{call_meant, answer_meant};
 
 use crate::call::{Answer, Call};
 use desk::{
@@ -18,14 +18,14 @@ use shares::Share;
 
 // Makes a call that is given as a value.
 pub fn make<O: Office>(office: &mut O, call: Call) -> Result<Answer<O::Kind>, Refusal>
-    ensures does { Does O.Kind.Share.kind (O.Office.meaning office.old) (called call) (answered result) (O.Office.meaning office.new) }
+    ensures does { Does O.Kind.Share.kind (O.Office.meaning office.old) (call_meant call) (answer_meant result) (O.Office.meaning office.new) }
     ensures one_result { CallsLeaveNoChoice O.Kind.Share.kind }
     ensures same { is_ok result ≡ false → office.new ≡ office.old }
-    ensures idle { idle (perform O.Kind.Share.kind (O.Office.meaning office.old) (called call)) ≡ true → office.new ≡ office.old }
+    ensures idle { idle (perform O.Kind.Share.kind (O.Office.meaning office.old) (call_meant call)) ≡ true → office.new ≡ office.old }
     ensures unused { unused (O.Office.rows office.new) ≡ unused (O.Office.rows office.old) }
     ensures layers { O.Office.layers office.new ≡ O.Office.layers office.old }
     ensures lent { O.Office.lent office.new ≡ O.Office.lent office.old }
-    ensures conserved { CallConserves O.Kind.Share.kind (O.Office.meaning office.old) (called call) (answered result) (O.Office.meaning office.new) }
+    ensures conserved { CallConserves O.Kind.Share.kind (O.Office.meaning office.old) (call_meant call) (answer_meant result) (O.Office.meaning office.new) }
     ensures always { LendingConserved O.Kind.Share.kind }
 {
     lending_is_conserved::<O::Kind>();
@@ -36,9 +36,9 @@ pub fn make<O: Office>(office: &mut O, call: Call) -> Result<Answer<O::Kind>, Re
 // Makes the call by the function of `desk` that has its name.
 #[tactic(auto, using(lending::proofs::Idling::idle_open, lending::proofs::Idling::idle_delegate, lending::proofs::Idling::idle_yield, lending::proofs::Idling::idle_merge, lending::proofs::Idling::idle_assign, lending::proofs::Idling::idle_day, lending::proofs::Idling::idle_recall, lending::proofs::Idling::idle_next))]
 fn ask<O: Office>(office: &mut O, call: Call) -> Result<Answer<O::Kind>, Refusal>
-    ensures does { Does O.Kind.Share.kind (O.Office.meaning office.old) (called call) (answered result) (O.Office.meaning office.new) }
+    ensures does { Does O.Kind.Share.kind (O.Office.meaning office.old) (call_meant call) (answer_meant result) (O.Office.meaning office.new) }
     ensures same { is_ok result ≡ false → office.new ≡ office.old }
-    ensures idle { idle (perform O.Kind.Share.kind (O.Office.meaning office.old) (called call)) ≡ true → office.new ≡ office.old }
+    ensures idle { idle (perform O.Kind.Share.kind (O.Office.meaning office.old) (call_meant call)) ≡ true → office.new ≡ office.old }
     ensures unused { unused (O.Office.rows office.new) ≡ unused (O.Office.rows office.old) }
     ensures layers { O.Office.layers office.new ≡ O.Office.layers office.old }
     ensures lent { O.Office.lent office.new ≡ O.Office.lent office.old }
@@ -74,7 +74,7 @@ fn ask<O: Office>(office: &mut O, call: Call) -> Result<Answer<O::Kind>, Refusal
 
 // How many leases a call closed, as its answer.
 fn number_closed<S: Share>(closed: Result<usize, Refusal>) -> Result<Answer<S>, Refusal>
-    ensures told { answered result ≡ told_number closed }
+    ensures told { answer_meant result ≡ number_or_refused closed }
     ensures granted { is_ok result ≡ is_ok closed }
 {
     closed.map(|leases| Answer::Number(leases))

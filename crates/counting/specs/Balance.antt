@@ -7,16 +7,16 @@ use Rattle.counting.specs.declared.counting.Counting.{Counting}
 use Rattle.counting.specs.Counts.{counting_kind}
 
 -- how many readers a permission has given out
-abbrev pub given_out : Permission → ℕ
-given_out Empty = 0
-given_out (Source n) = n
-given_out (Readers k) = 0
+abbrev pub readers_given_out : Permission → ℕ
+readers_given_out Empty = 0
+readers_given_out (Source n) = n
+readers_given_out (Readers k) = 0
 
 -- how many readers it holds
-abbrev pub held : Permission → ℕ
-held Empty = 0
-held (Source n) = 0
-held (Readers k) = k
+abbrev pub readers_held : Permission → ℕ
+readers_held Empty = 0
+readers_held (Source n) = 0
+readers_held (Readers k) = k
 
 abbrev pub total : (Permission → ℕ) → List Counting → ℕ
 total count [] = 0
@@ -24,4 +24,4 @@ total count (s ∷ ss) = count s.held + total count ss
 
 -- Of some shares that join to the whole, as many readers are given out as are held.
 abbrev pub GivenOutIsHeld : Type 0
-GivenOutIsHeld = (shares : List Counting) → together counting_kind shares ≡ Some counting_kind.whole → total given_out shares ≡ total held shares
+GivenOutIsHeld = (shares : List Counting) → together counting_kind shares ≡ Some counting_kind.whole → total readers_given_out shares ≡ total readers_held shares

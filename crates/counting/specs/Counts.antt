@@ -15,8 +15,8 @@ unfoldable pub counting_of : Permission → Counting
 counting_of p = of_permission_by p (within p) refl
 
 -- the share with a permission; None where that is beyond the limits
-abbrev pub counted : Permission → Option Counting
-counted p = cond (within p) (Some (counting_of p)) None
+abbrev pub counting_if_within : Permission → Option Counting
+counting_if_within p = cond (within p) (Some (counting_of p)) None
 
 -- readers add up, and readers given back to a source are no longer given out
 abbrev pub plus : Permission → Permission → Option Permission
@@ -35,11 +35,11 @@ less (Source n) = Some (Source (n + 1))
 less (Readers k) = Some (Readers (k - 1))
 
 abbrev pub join : Counting → Counting → Option Counting
-join a b = then (plus a.held b.held) counted
+join a b = then (plus a.held b.held) counting_if_within
 
 -- one reader is lent
 abbrev pub halve : Counting → Option (Counting × Counting)
-halve a = then (then (less a.held) counted) (λ kept. Some (kept, counting_of (Readers 1)))
+halve a = then (then (less a.held) counting_if_within) (λ kept. Some (kept, counting_of (Readers 1)))
 
 abbrev pub alike : Permission → Permission → Bool
 alike Empty Empty = true
@@ -56,7 +56,7 @@ abbrev pub counting_kind : Kind Counting
 counting_kind = record { empty = counting_of Empty; whole = counting_of (Source 0); join = join; halve = halve; same = λ a b. alike a.held b.held }
 
 -- `e`, `s` and how many readers it has given out, or `r` and how many it holds
-abbrev pub text : Permission → List ℕ
-text Empty = 101 ∷ []
-text (Source n) = 115 ∷ decimal n
-text (Readers k) = 114 ∷ decimal k
+abbrev pub permission_text : Permission → List ℕ
+permission_text Empty = 101 ∷ []
+permission_text (Source n) = 115 ∷ decimal n
+permission_text (Readers k) = 114 ∷ decimal k

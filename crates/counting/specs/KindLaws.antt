@@ -13,7 +13,7 @@ use Rattle.counting.specs.declared.permission.Permission.TheVariants.{Empty, Sou
 use Rattle.counting.specs.declared.counting.Counting.{Counting}
 use Rattle.counting.specs.Limits.{within}
 use Rattle.counting.specs.contracts.permission.PermissionPartialEq.TheImpl as derived
-use Rattle.counting.specs.Counts.{of_permission_by, counting_of, counted, plus, join, less, halve, alike, counting_kind}
+use Rattle.counting.specs.Counts.{of_permission_by, counting_of, counting_if_within, plus, join, less, halve, alike, counting_kind}
 
 -- equal permissions, equal shares
 pub same_held : (a b : Counting) → a.held ≡ b.held → a ≡ b
@@ -31,14 +31,14 @@ of_held p c e = go (within p) refl
 held_of : (p : Permission) → within p ≡ true → (counting_of p).held ≡ p
 held_of p e = ap (λ s. s.held) (of_held p (record { held = p; limited = e }) refl)
 
-pub counted_is : (p : Permission) (c : Counting) → counted p ≡ Some c → c.held ≡ p
+pub counted_is : (p : Permission) (c : Counting) → counting_if_within p ≡ Some c → c.held ≡ p
 counted_is p c = go (within p) refl
   where
     go : (b : Bool) → within p ≡ b → cond b (Some (counting_of p)) None ≡ Some c → c.held ≡ p
     go true f e = let g : counting_of p ≡ c = cc in sym (ap (λ s. s.held) g) ∙ held_of p f
     go false f e = let z : ◌≡◌ {A = ℕ} 0 1 = cc in absurd (omega arith)
 
-counted_made : (p : Permission) (c : Counting) → c.held ≡ p → counted p ≡ Some c
+counted_made : (p : Permission) (c : Counting) → c.held ≡ p → counting_if_within p ≡ Some c
 counted_made p c e =
     cond-true (within p) (Some (counting_of p)) None (ap within (sym e) ∙ c.limited) ∙ ap Some (of_held p c e)
 
@@ -118,12 +118,12 @@ plus_made (Readers j) (Readers k) (Readers l) p q r e = ap (λ x. Some (Readers 
 adds : (a b c : Counting) → join a b ≡ Some c → weight c ≡ weight a + weight b
 adds a b c = go (plus a.held b.held) refl
   where
-    go : (o : Option Permission) → plus a.held b.held ≡ o → then o counted ≡ Some c → weight c ≡ weight a + weight b
+    go : (o : Option Permission) → plus a.held b.held ≡ o → then o counting_if_within ≡ Some c → weight c ≡ weight a + weight b
     go None f e = let z : ◌≡◌ {A = ℕ} 0 1 = cc in absurd (omega arith)
     go (Some p) f e = ap heft (counted_is p c e) ∙ plus_adds a.held b.held p a.limited b.limited f
 
 joins : (a b c : Counting) → weight c ≡ weight a + weight b → join a b ≡ Some c
-joins a b c e = ap (λ o. then o counted) (plus_made a.held b.held c.held a.limited b.limited c.limited e) ∙ counted_made c.held c refl
+joins a b c e = ap (λ o. then o counting_if_within) (plus_made a.held b.held c.held a.limited b.limited c.limited e) ∙ counted_made c.held c refl
 
 -- the weights that shares have
 abbrev Weighs : ℕ → Type 0
@@ -163,16 +163,16 @@ with_one c = (c, one)
 halve_is : (a k l : Counting) → halve a ≡ Some (k, l) → Halved a k l
 halve_is a k l = go (less a.held) refl
   where
-    go₂ : (p : Permission) (o : Option Counting) → less a.held ≡ Some p → counted p ≡ o → then o (λ c. Some (with_one c)) ≡ Some (k, l) → Halved a k l
+    go₂ : (p : Permission) (o : Option Counting) → less a.held ≡ Some p → counting_if_within p ≡ o → then o (λ c. Some (with_one c)) ≡ Some (k, l) → Halved a k l
     go₂ p None f g e = let z : ◌≡◌ {A = ℕ} 0 1 = cc in absurd (omega arith)
     go₂ p (Some x) f g e =
         let h : ◌≡◌ {A = Counting × Counting} (with_one x) (k, l) = cc in
         let i : x ≡ k = ap (λ q. q.0) h in
         record { kept = f ∙ ap Some (sym (counted_is p x g) ∙ ap (λ s. s.held) i); lent = sym (ap (λ q. q.1) h) }
 
-    go : (o : Option Permission) → less a.held ≡ o → then (then o counted) (λ c. Some (with_one c)) ≡ Some (k, l) → Halved a k l
+    go : (o : Option Permission) → less a.held ≡ o → then (then o counting_if_within) (λ c. Some (with_one c)) ≡ Some (k, l) → Halved a k l
     go None f e = let z : ◌≡◌ {A = ℕ} 0 1 = cc in absurd (omega arith)
-    go (Some p) f e = go₂ p (counted p) f refl e
+    go (Some p) f e = go₂ p (counting_if_within p) f refl e
 
 -- where a share is halved, it weighs one more than what is kept
 less_one : (x y : Permission) → within x ≡ true → within y ≡ true → less x ≡ Some y → heft x ≡ heft y + 1

@@ -8,18 +8,18 @@ use Rattle.counting.specs.declared.permission.Permission.{Permission}
 use Rattle.counting.specs.declared.permission.Permission.TheVariants.{Empty, Source, Readers}
 use Rattle.counting.specs.declared.counting.Counting.{Counting}
 use Rattle.counting.specs.Limits.{within}
-use Rattle.counting.specs.Counts.{text}
+use Rattle.counting.specs.Counts.{permission_text}
 use Rattle.counting.specs.KindLaws.{same_held, source_few, readers_few}
 
 digits_short : (n : ℕ) → n ≤ 4095 → length (decimal n) ≤ 4
 digits_short n h = length-decimal-le 4 n (omega arith) (omega arith) (omega arith)
 
-pub short : (p : Permission) → within p ≡ true → length (text p) ≤ 190
+pub short : (p : Permission) → within p ≡ true → length (permission_text p) ≤ 190
 short Empty e = omega arith
 short (Source n) e = omega (arith, digits_short n (source_few n e))
 short (Readers k) e = omega (arith, digits_short k (readers_few k e).1)
 
-pub ascii : (p : Permission) → within p ≡ true → IsAscii (text p)
+pub ascii : (p : Permission) → within p ≡ true → IsAscii (permission_text p)
 ascii Empty e = IsAscii-cons 101 [] (omega arith) IsAscii-nil
 ascii (Source n) e = IsAscii-cons 115 _ (omega arith) (IsAscii-decimal n (let h = source_few n e in omega arith))
 ascii (Readers k) e = IsAscii-cons 114 _ (omega arith) (IsAscii-decimal k (let h = (readers_few k e).1 in omega arith))
@@ -27,7 +27,7 @@ ascii (Readers k) e = IsAscii-cons 114 _ (omega arith) (IsAscii-decimal k (let h
 same_number : (m n : ℕ) → m ≤ 4095 → n ≤ 4095 → decimal m ≡ decimal n → m ≡ n
 same_number m n p q d = decimal_injective m n (omega arith) (omega arith) d
 
-told : (p q : Permission) → within p ≡ true → within q ≡ true → text p ≡ text q → p ≡ q
+told : (p q : Permission) → within p ≡ true → within q ≡ true → permission_text p ≡ permission_text q → p ≡ q
 told Empty Empty x y e = refl
 told Empty (Source m) x y e = let z : ◌≡◌ {A = ℕ} 101 115 = cc in absurd (omega arith)
 told Empty (Readers k) x y e = let z : ◌≡◌ {A = ℕ} 101 114 = cc in absurd (omega arith)
@@ -38,5 +38,5 @@ told (Readers j) Empty x y e = let z : ◌≡◌ {A = ℕ} 114 101 = cc in absur
 told (Readers j) (Source m) x y e = let z : ◌≡◌ {A = ℕ} 114 115 = cc in absurd (omega arith)
 told (Readers j) (Readers k) x y e = let d : decimal j ≡ decimal k = cc in ap Readers (same_number j k (readers_few j x).1 (readers_few k y).1 d)
 
-pub tells : (a b : Counting) → (text a.held ≡ text b.held) ↔ (a ≡ b)
-tells a b = ((λ e. same_held a b (told a.held b.held a.limited b.limited e)), (λ e. ap (λ s. text s.held) e))
+pub tells : (a b : Counting) → (permission_text a.held ≡ permission_text b.held) ↔ (a ≡ b)
+tells a b = ((λ e. same_held a b (told a.held b.held a.limited b.limited e)), (λ e. ap (λ s. permission_text s.held) e))

@@ -18,7 +18,7 @@ use Rattle.lending.specs.Calls.{bad_day, due_by}
 use Rattle.lending.specs.Above.{yields, downward, recall_all}
 use Rattle.lending.specs.Perform.{perform, Ends, Does}
 use Rattle.lending.specs.Idle.{idle}
-use Rattle.lending.specs.Told.{told_number}
+use Rattle.lending.specs.Answers.{number_or_refused}
 use Rattle.lending.proofs.Going.{recall_granted, recall_ends, day_ends}
 use Rattle.office.specs.Lawful.{Lawful}
 
@@ -35,23 +35,23 @@ module _ {S : Type 0} (K : Kind S) (s : State S) (rows : List (Lease S)) (law : 
       day_ends K s law.orderly d good t v a k (len ∙ ap length e ∙ sym (length-reverse (map (λ l. l.number) (filter (due_by d) s.core.roll)))) (λ u y. h u (ap (yields K s) down ∙ y)) does
 
   -- a hand-in is a recall, but that a lease which is not live is no refusal
-  pub handed_in : (n : ℕ) (t : State S) (r : Result ℕ Refusal) → Does K s (recall n) (told_number r) t → Does K s (hand_in n) (number (result_unwrap_or r 0)) t
+  pub handed_in : (n : ℕ) (t : State S) (r : Result ℕ Refusal) → Does K s (recall n) (number_or_refused r) t → Does K s (hand_in n) (number (result_unwrap_or r 0)) t
   handed_in n t r d = go (live s.core.roll n) refl r d
     where
-      go : (b : Bool) → live s.core.roll n ≡ b → (r : Result ℕ Refusal) → Ends (cond (not b) (refuses (record { number = 6; level = 0 })) (recall_all K s n)) s (told_number r) t → Does K s (hand_in n) (number (result_unwrap_or r 0)) t
+      go : (b : Bool) → live s.core.roll n ≡ b → (r : Result ℕ Refusal) → Ends (cond (not b) (refuses (record { number = 6; level = 0 })) (recall_all K s n)) s (number_or_refused r) t → Does K s (hand_in n) (number (result_unwrap_or r 0)) t
       go true e (Ok k) d = subst (λ (o : Outcome S). Ends o s (number k) t) (sym (cond-true (live s.core.roll n) (recall_all K s n) (tells (number 0)) e)) d
       go true e (Err f) d =
           let g = recall_granted K s law.orderly n e in
-          let y : Ends (grants (number (length (downward (family s.core.roll n)))) g.0) s (told_number {S = S} (Err f)) t = subst (λ (o : Outcome S). Ends o s (told_number (Err f)) t) g.1 d in
+          let y : Ends (grants (number (length (downward (family s.core.roll n)))) g.0) s (number_or_refused {S = S} (Err f)) t = subst (λ (o : Outcome S). Ends o s (number_or_refused (Err f)) t) g.1 d in
           absurd (let z : ◌≡◌ {A = ℕ} 0 1 = (let w = y.0 in cc) in omega arith)
       go false e (Ok k) d = absurd (let z : ◌≡◌ {A = ℕ} 0 1 = (let w = d.0 in cc) in omega arith)
       go false e (Err f) d = subst (λ (o : Outcome S). Ends o s (number 0) t) (sym (cond-false (live s.core.roll n) (recall_all K s n) (tells (number 0)) e)) (refl, d.1)
 
   -- a hand-in that changes nothing recalls nothing
-  pub idle_hand_in : (n : ℕ) (t : State S) (r : Result ℕ Refusal) → Does K s (recall n) (told_number r) t → idle (perform K s (hand_in n)) ≡ true → is_ok r ≡ false
+  pub idle_hand_in : (n : ℕ) (t : State S) (r : Result ℕ Refusal) → Does K s (recall n) (number_or_refused r) t → idle (perform K s (hand_in n)) ≡ true → is_ok r ≡ false
   idle_hand_in n t r d i = go (live s.core.roll n) refl r d i
     where
-      go : (b : Bool) → live s.core.roll n ≡ b → (r : Result ℕ Refusal) → Ends (cond (not b) (refuses (record { number = 6; level = 0 })) (recall_all K s n)) s (told_number r) t → idle (cond b (recall_all K s n) (tells (number 0))) ≡ true → is_ok r ≡ false
+      go : (b : Bool) → live s.core.roll n ≡ b → (r : Result ℕ Refusal) → Ends (cond (not b) (refuses (record { number = 6; level = 0 })) (recall_all K s n)) s (number_or_refused r) t → idle (cond b (recall_all K s n) (tells (number 0))) ≡ true → is_ok r ≡ false
       go true e r d i = let g = recall_granted K s law.orderly n e in let w : idle {S = S} (grants (number (length (downward (family s.core.roll n)))) g.0) ≡ true = ap idle (sym g.1) ∙ i in absurd (let z : ◌≡◌ {A = ℕ} 0 1 = cc in omega arith)
       go false e (Ok k) d i = absurd (let z : ◌≡◌ {A = ℕ} 0 1 = (let w = d.0 in cc) in omega arith)
       go false e (Err f) d i = refl

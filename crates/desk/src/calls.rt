@@ -3,7 +3,7 @@ ghost use Rattle.std.specs.Prelude.{◌≡◌, false, is_ok};
 ghost use Rattle.lending.specs.Outcome.Call.{open_resource, delegate, yield, merge, assign, new_day};
 ghost use Rattle.lending.specs.Perform.{Does};
 ghost use Rattle.lending.specs.Promise.{LendingConserved, CallConserves};
-ghost use Rattle.lending.specs.Told.{told, told_number};
+ghost use Rattle.lending.specs.Answers.{done_or_refused, number_or_refused};
 ghost use Rattle.office.specs.Lawful.{unused};
 
 use lending::{Refusal, lending_is_conserved};
@@ -11,12 +11,12 @@ use office::Office;
 
 // Opens a resource: the holder gets its first lease, with the whole. Answers its number.
 pub fn open<O: Office>(office: &mut O, resource: u16, holder: u16) -> Result<u16, Refusal>
-    ensures does { Does O.Kind.Share.kind (O.Office.meaning office.old) (open_resource resource holder) (told_number result) (O.Office.meaning office.new) }
+    ensures does { Does O.Kind.Share.kind (O.Office.meaning office.old) (open_resource resource holder) (number_or_refused result) (O.Office.meaning office.new) }
     ensures same { is_ok result ≡ false → office.new ≡ office.old }
     ensures unused { unused (O.Office.rows office.new) ≡ unused (O.Office.rows office.old) }
     ensures layers { O.Office.layers office.new ≡ O.Office.layers office.old }
     ensures lent { O.Office.lent office.new ≡ O.Office.lent office.old }
-    ensures conserved { CallConserves O.Kind.Share.kind (O.Office.meaning office.old) (open_resource resource holder) (told_number result) (O.Office.meaning office.new) }
+    ensures conserved { CallConserves O.Kind.Share.kind (O.Office.meaning office.old) (open_resource resource holder) (number_or_refused result) (O.Office.meaning office.new) }
     ensures always { LendingConserved O.Kind.Share.kind }
 {
     lending_is_conserved::<O::Kind>();
@@ -30,12 +30,12 @@ pub fn delegate<O: Office>(
     holder: u16,
     due: u16,
 ) -> Result<u16, Refusal>
-    ensures does { Does O.Kind.Share.kind (O.Office.meaning office.old) (delegate lender holder due) (told_number result) (O.Office.meaning office.new) }
+    ensures does { Does O.Kind.Share.kind (O.Office.meaning office.old) (delegate lender holder due) (number_or_refused result) (O.Office.meaning office.new) }
     ensures same { is_ok result ≡ false → office.new ≡ office.old }
     ensures unused { unused (O.Office.rows office.new) ≡ unused (O.Office.rows office.old) }
     ensures layers { O.Office.layers office.new ≡ O.Office.layers office.old }
     ensures lent { O.Office.lent office.new ≡ O.Office.lent office.old }
-    ensures conserved { CallConserves O.Kind.Share.kind (O.Office.meaning office.old) (delegate lender holder due) (told_number result) (O.Office.meaning office.new) }
+    ensures conserved { CallConserves O.Kind.Share.kind (O.Office.meaning office.old) (delegate lender holder due) (number_or_refused result) (O.Office.meaning office.new) }
     ensures always { LendingConserved O.Kind.Share.kind }
 {
     lending_is_conserved::<O::Kind>();
@@ -44,12 +44,12 @@ pub fn delegate<O: Office>(
 
 // Closes a lease, and joins its share to its lender's.
 pub fn yield_lease<O: Office>(office: &mut O, lease: u16) -> Result<(), Refusal>
-    ensures does { Does O.Kind.Share.kind (O.Office.meaning office.old) (yield lease) (told result) (O.Office.meaning office.new) }
+    ensures does { Does O.Kind.Share.kind (O.Office.meaning office.old) (yield lease) (done_or_refused result) (O.Office.meaning office.new) }
     ensures same { is_ok result ≡ false → office.new ≡ office.old }
     ensures unused { unused (O.Office.rows office.new) ≡ unused (O.Office.rows office.old) }
     ensures layers { O.Office.layers office.new ≡ O.Office.layers office.old }
     ensures lent { O.Office.lent office.new ≡ O.Office.lent office.old }
-    ensures conserved { CallConserves O.Kind.Share.kind (O.Office.meaning office.old) (yield lease) (told result) (O.Office.meaning office.new) }
+    ensures conserved { CallConserves O.Kind.Share.kind (O.Office.meaning office.old) (yield lease) (done_or_refused result) (O.Office.meaning office.new) }
     ensures always { LendingConserved O.Kind.Share.kind }
 {
     lending_is_conserved::<O::Kind>();
@@ -58,12 +58,12 @@ pub fn yield_lease<O: Office>(office: &mut O, lease: u16) -> Result<(), Refusal>
 
 // Closes lease b; lease a gets both shares, and lends what b lent.
 pub fn merge<O: Office>(office: &mut O, a: u16, b: u16) -> Result<(), Refusal>
-    ensures does { Does O.Kind.Share.kind (O.Office.meaning office.old) (merge a b) (told result) (O.Office.meaning office.new) }
+    ensures does { Does O.Kind.Share.kind (O.Office.meaning office.old) (merge a b) (done_or_refused result) (O.Office.meaning office.new) }
     ensures same { is_ok result ≡ false → office.new ≡ office.old }
     ensures unused { unused (O.Office.rows office.new) ≡ unused (O.Office.rows office.old) }
     ensures layers { O.Office.layers office.new ≡ O.Office.layers office.old }
     ensures lent { O.Office.lent office.new ≡ O.Office.lent office.old }
-    ensures conserved { CallConserves O.Kind.Share.kind (O.Office.meaning office.old) (merge a b) (told result) (O.Office.meaning office.new) }
+    ensures conserved { CallConserves O.Kind.Share.kind (O.Office.meaning office.old) (merge a b) (done_or_refused result) (O.Office.meaning office.new) }
     ensures always { LendingConserved O.Kind.Share.kind }
 {
     lending_is_conserved::<O::Kind>();
@@ -72,12 +72,12 @@ pub fn merge<O: Office>(office: &mut O, a: u16, b: u16) -> Result<(), Refusal>
 
 // Changes the holder of a lease.
 pub fn assign<O: Office>(office: &mut O, lease: u16, holder: u16) -> Result<(), Refusal>
-    ensures does { Does O.Kind.Share.kind (O.Office.meaning office.old) (assign lease holder) (told result) (O.Office.meaning office.new) }
+    ensures does { Does O.Kind.Share.kind (O.Office.meaning office.old) (assign lease holder) (done_or_refused result) (O.Office.meaning office.new) }
     ensures same { is_ok result ≡ false → office.new ≡ office.old }
     ensures unused { unused (O.Office.rows office.new) ≡ unused (O.Office.rows office.old) }
     ensures layers { O.Office.layers office.new ≡ O.Office.layers office.old }
     ensures lent { O.Office.lent office.new ≡ O.Office.lent office.old }
-    ensures conserved { CallConserves O.Kind.Share.kind (O.Office.meaning office.old) (assign lease holder) (told result) (O.Office.meaning office.new) }
+    ensures conserved { CallConserves O.Kind.Share.kind (O.Office.meaning office.old) (assign lease holder) (done_or_refused result) (O.Office.meaning office.new) }
     ensures always { LendingConserved O.Kind.Share.kind }
 {
     lending_is_conserved::<O::Kind>();
@@ -86,12 +86,12 @@ pub fn assign<O: Office>(office: &mut O, lease: u16, holder: u16) -> Result<(), 
 
 // Changes today.
 pub fn set_day<O: Office>(office: &mut O, day: u16) -> Result<(), Refusal>
-    ensures does { Does O.Kind.Share.kind (O.Office.meaning office.old) (new_day day) (told result) (O.Office.meaning office.new) }
+    ensures does { Does O.Kind.Share.kind (O.Office.meaning office.old) (new_day day) (done_or_refused result) (O.Office.meaning office.new) }
     ensures same { is_ok result ≡ false → office.new ≡ office.old }
     ensures unused { unused (O.Office.rows office.new) ≡ unused (O.Office.rows office.old) }
     ensures layers { O.Office.layers office.new ≡ O.Office.layers office.old }
     ensures lent { O.Office.lent office.new ≡ O.Office.lent office.old }
-    ensures conserved { CallConserves O.Kind.Share.kind (O.Office.meaning office.old) (new_day day) (told result) (O.Office.meaning office.new) }
+    ensures conserved { CallConserves O.Kind.Share.kind (O.Office.meaning office.old) (new_day day) (done_or_refused result) (O.Office.meaning office.new) }
     ensures always { LendingConserved O.Kind.Share.kind }
 {
     lending_is_conserved::<O::Kind>();

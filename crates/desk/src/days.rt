@@ -6,7 +6,7 @@ ghost use Rattle.lending.specs.Outcome.Answer.{number};
 ghost use Rattle.lending.specs.Outcome.Call.{day as next_day};
 ghost use Rattle.lending.specs.Perform.{Does};
 ghost use Rattle.lending.specs.Promise.{LendingConserved, CallConserves};
-ghost use Rattle.lending.specs.Told.{told_number};
+ghost use Rattle.lending.specs.Answers.{number_or_refused};
 ghost use Rattle.office.specs.Lawful.{unused};
 
 use crate::sweep::{Numbers, yield_down};
@@ -15,13 +15,13 @@ use office::{Office, leases};
 
 // Closes every lease that falls due by a day, then sets the day, and answers how many it closed.
 pub fn day<O: Office>(office: &mut O, day: u16) -> Result<usize, Refusal>
-    ensures does { Does O.Kind.Share.kind (O.Office.meaning office.old) (next_day day) (told_number result) (O.Office.meaning office.new) }
+    ensures does { Does O.Kind.Share.kind (O.Office.meaning office.old) (next_day day) (number_or_refused result) (O.Office.meaning office.new) }
     ensures comes { is_ok result ≡ true → DayComes O.Kind.Share.kind (O.Office.meaning office.old) day (O.Office.meaning office.new) }
     ensures same { is_ok result ≡ false → office.new ≡ office.old }
     ensures unused { unused (O.Office.rows office.new) ≡ unused (O.Office.rows office.old) }
     ensures layers { O.Office.layers office.new ≡ O.Office.layers office.old }
     ensures lent { O.Office.lent office.new ≡ O.Office.lent office.old }
-    ensures conserved { CallConserves O.Kind.Share.kind (O.Office.meaning office.old) (next_day day) (told_number result) (O.Office.meaning office.new) }
+    ensures conserved { CallConserves O.Kind.Share.kind (O.Office.meaning office.old) (next_day day) (number_or_refused result) (O.Office.meaning office.new) }
     ensures always { LendingConserved O.Kind.Share.kind }
 {
     lending_is_conserved::<O::Kind>();

@@ -4,8 +4,8 @@ ghost use Rattle.lending.specs.Outcome.Call.{ask_count, ask_issued, ask_today, a
 ghost use Rattle.lending.specs.Outcome.Answer.{number};
 ghost use Rattle.lending.specs.Perform.{Does};
 ghost use Rattle.lending.specs.Promise.{LendingConserved, CallConserves};
-ghost use Rattle.lending.specs.Told.{told_lease};
-ghost use Rattle.office.specs.Left.{left};
+ghost use Rattle.lending.specs.Answers.{lease_or_refused};
+ghost use Rattle.office.specs.ToCome.{leases_to_come};
 
 use lending::{Lease, Refusal, lending_is_conserved};
 use office::{LiveLeases, Office};
@@ -42,8 +42,8 @@ pub fn today<O: Office>(office: &O) -> u16
 
 // The live lease at a position of the roll, from 0.
 pub fn lease_at<O: Office>(office: &O, position: usize) -> Result<Lease<O::Kind>, Refusal>
-    ensures does { Does O.Kind.Share.kind (O.Office.meaning office.now) (ask_lease_at position) (told_lease result) (O.Office.meaning office.now) }
-    ensures conserved { CallConserves O.Kind.Share.kind (O.Office.meaning office.now) (ask_lease_at position) (told_lease result) (O.Office.meaning office.now) }
+    ensures does { Does O.Kind.Share.kind (O.Office.meaning office.now) (ask_lease_at position) (lease_or_refused result) (O.Office.meaning office.now) }
+    ensures conserved { CallConserves O.Kind.Share.kind (O.Office.meaning office.now) (ask_lease_at position) (lease_or_refused result) (O.Office.meaning office.now) }
     ensures always { LendingConserved O.Kind.Share.kind }
 {
     lending_is_conserved::<O::Kind>();
@@ -52,8 +52,8 @@ pub fn lease_at<O: Office>(office: &O, position: usize) -> Result<Lease<O::Kind>
 
 // The live lease with a number.
 pub fn lease<O: Office>(office: &O, lease: u16) -> Result<Lease<O::Kind>, Refusal>
-    ensures does { Does O.Kind.Share.kind (O.Office.meaning office.now) (ask_lease lease) (told_lease result) (O.Office.meaning office.now) }
-    ensures conserved { CallConserves O.Kind.Share.kind (O.Office.meaning office.now) (ask_lease lease) (told_lease result) (O.Office.meaning office.now) }
+    ensures does { Does O.Kind.Share.kind (O.Office.meaning office.now) (ask_lease lease) (lease_or_refused result) (O.Office.meaning office.now) }
+    ensures conserved { CallConserves O.Kind.Share.kind (O.Office.meaning office.now) (ask_lease lease) (lease_or_refused result) (O.Office.meaning office.now) }
     ensures always { LendingConserved O.Kind.Share.kind }
 {
     lending_is_conserved::<O::Kind>();
@@ -62,7 +62,7 @@ pub fn lease<O: Office>(office: &O, lease: u16) -> Result<Lease<O::Kind>, Refusa
 
 // The live leases one by one, in the order of the roll.
 pub fn leases<O: Office>(office: &O) -> LiveLeases<'_, O>
-    ensures is { left O.Office.meaning result ≡ (O.Office.meaning office.now).core.roll }
+    ensures is { leases_to_come O.Office.meaning result ≡ (O.Office.meaning office.now).core.roll }
     ensures always { LendingConserved O.Kind.Share.kind }
 {
     lending_is_conserved::<O::Kind>();

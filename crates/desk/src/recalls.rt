@@ -7,7 +7,7 @@ ghost use Rattle.lending.specs.Outcome.Call.{recall};
 ghost use Rattle.lending.specs.Perform.{Does};
 ghost use Rattle.lending.specs.Promise.{LendingConserved, CallConserves};
 ghost use Rattle.lending.specs.Roll.{live, family};
-ghost use Rattle.lending.specs.Told.{told_number};
+ghost use Rattle.lending.specs.Answers.{number_or_refused};
 ghost use Rattle.office.specs.Lawful.{unused};
 
 use crate::sweep::{Numbers, yield_down};
@@ -16,13 +16,13 @@ use office::{Office, leases};
 
 // Closes a lease and all under it, and answers how many.
 pub fn recall<O: Office>(office: &mut O, lease: u16) -> Result<usize, Refusal>
-    ensures does { Does O.Kind.Share.kind (O.Office.meaning office.old) (recall lease) (told_number result) (O.Office.meaning office.new) }
+    ensures does { Does O.Kind.Share.kind (O.Office.meaning office.old) (recall lease) (number_or_refused result) (O.Office.meaning office.new) }
     ensures takes_back { TakesBack O.Kind.Share.kind (O.Office.meaning office.old) lease (O.Office.meaning office.new) }
     ensures same { is_ok result ≡ false → office.new ≡ office.old }
     ensures unused { unused (O.Office.rows office.new) ≡ unused (O.Office.rows office.old) }
     ensures layers { O.Office.layers office.new ≡ O.Office.layers office.old }
     ensures lent { O.Office.lent office.new ≡ O.Office.lent office.old }
-    ensures conserved { CallConserves O.Kind.Share.kind (O.Office.meaning office.old) (recall lease) (told_number result) (O.Office.meaning office.new) }
+    ensures conserved { CallConserves O.Kind.Share.kind (O.Office.meaning office.old) (recall lease) (number_or_refused result) (O.Office.meaning office.new) }
     ensures always { LendingConserved O.Kind.Share.kind }
 {
     lending_is_conserved::<O::Kind>();

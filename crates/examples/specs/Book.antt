@@ -13,7 +13,7 @@ use Rattle.lending.specs.Play.{play}
 use Rattle.quota.specs.Means.{quota_objects}
 use Rattle.term.specs.Means.{term_objects}
 use Rattle.chain.specs.Means.{chain_objects}
-use Rattle.printout.specs.Tenancy.{played as printed_of}
+use Rattle.printout.specs.Tenancy.{book_printout as printed_of}
 
 abbrev pub layers : Layers Trees
 layers = quota_objects 64 ∷ term_objects 30 ∷ chain_objects 2 ∷ []

@@ -1,3 +1,3 @@
-pub mod Fickles
+pub mod Objects
 pub mod Lawful
 pub mod Works

@@ -3,9 +3,9 @@ ghost use Rattle.lending.specs.Office.{SetUp};
 ghost use Rattle.lending.specs.Office.Request.{opening};
 ghost use Rattle.lending.specs.Outcome.Call.{open_resource, delegate, yield, merge, assign, new_day};
 ghost use Rattle.lending.specs.Perform.{Does};
-ghost use Rattle.lending.specs.Told.{number_of, told, told_number};
+ghost use Rattle.lending.specs.Answers.{reason_number, done_or_refused, number_or_refused};
 ghost use Rattle.office.specs.Lawful.{unused};
-ghost use Rattle.fickle.specs.Fickles.{shut, flip, stands};
+ghost use Rattle.fickle.specs.Objects.{fickle_objects, flip, fickle_state};
 
 use lending::{Lease, Reason, Refusal};
 use office::Office;
@@ -21,7 +21,7 @@ pub struct Fickle<O> {
 impl<O: Office> Fickle<O> {
     // The fickle office over another. It begins by letting opens through.
     pub fn over(below: O) -> Fickle<O>
-        ensures stands { ⟦<Fickle<O> as Office>⟧.meaning result ≡ stands false (O.Office.meaning below) }
+        ensures stands { ⟦<Fickle<O> as Office>⟧.meaning result ≡ fickle_state false (O.Office.meaning below) }
         ensures set_up { SetUp (O.Office.meaning below) → SetUp (⟦<Fickle<O> as Office>⟧.meaning result) }
         ensures rows { ⟦<Fickle<O> as Office>⟧.rows result ≡ O.Office.rows below }
         ensures lent { ⟦<Fickle<O> as Office>⟧.lent result ≡ O.Office.lent below }
@@ -35,7 +35,7 @@ impl<O: Office> Fickle<O> {
 
     // Refuses an open while it is closed.
     fn allow(&self, resource: u16, holder: u16) -> Result<(), Refusal>
-        ensures { let s = O.Office.meaning self.now.below in let mine = shut self.now.closed s.core.roll s.core.today (opening resource holder) in MatchResult result (λ x. mine ≡ None) (λ refusal. (mine ≡ Some (number_of refusal.reason)) × (refusal.level ≡ 0)) }
+        ensures { let s = O.Office.meaning self.now.below in let mine = fickle_objects self.now.closed s.core.roll s.core.today (opening resource holder) in MatchResult result (λ x. mine ≡ None) (λ refusal. (mine ≡ Some (reason_number refusal.reason)) × (refusal.level ≡ 0)) }
     {
         if self.closed {
             return Err(Reason::OverQuota.into());
@@ -60,7 +60,7 @@ impl<O: Office> Office for Fickle<O> {
 
     type Kind = O::Kind;
 
-    ghost meaning = { λ fickle. stands fickle.closed (O.Office.meaning fickle.below) };
+    ghost meaning = { λ fickle. fickle_state fickle.closed (O.Office.meaning fickle.below) };
 
     ghost rows = { λ fickle. O.Office.rows fickle.below };
 
@@ -92,7 +92,7 @@ impl<O: Office> Office for Fickle<O> {
 
     #[tactic(auto, using(crate::proofs::Turning::opened))]
     fn open(&mut self, resource: u16, holder: u16) -> Result<u16, Refusal>
-        ensures does { Does O.Kind.Share.kind (stands self.old.closed (O.Office.meaning self.old.below)) (open_resource resource holder) (told_number result) (stands self.new.closed (O.Office.meaning self.new.below)) }
+        ensures does { Does O.Kind.Share.kind (fickle_state self.old.closed (O.Office.meaning self.old.below)) (open_resource resource holder) (number_or_refused result) (fickle_state self.new.closed (O.Office.meaning self.new.below)) }
         ensures turns { self.new.closed ≡ flip (is_ok result) self.old.closed }
         ensures same { is_ok result ≡ false → self.new ≡ self.old }
         ensures unused { unused (O.Office.rows self.new.below) ≡ unused (O.Office.rows self.old.below) }
@@ -107,7 +107,7 @@ impl<O: Office> Office for Fickle<O> {
 
     #[tactic(auto, using(crate::proofs::Turning::delegated))]
     fn delegate(&mut self, lender: u16, holder: u16, due: u16) -> Result<u16, Refusal>
-        ensures does { Does O.Kind.Share.kind (stands self.old.closed (O.Office.meaning self.old.below)) (delegate lender holder due) (told_number result) (stands self.new.closed (O.Office.meaning self.new.below)) }
+        ensures does { Does O.Kind.Share.kind (fickle_state self.old.closed (O.Office.meaning self.old.below)) (delegate lender holder due) (number_or_refused result) (fickle_state self.new.closed (O.Office.meaning self.new.below)) }
         ensures turns { self.new.closed ≡ flip (is_ok result) self.old.closed }
         ensures same { is_ok result ≡ false → self.new ≡ self.old }
         ensures unused { unused (O.Office.rows self.new.below) ≡ unused (O.Office.rows self.old.below) }
@@ -124,7 +124,7 @@ impl<O: Office> Office for Fickle<O> {
 
     #[tactic(auto, using(crate::proofs::Turning::yielded))]
     fn yield_lease(&mut self, lease: u16) -> Result<(), Refusal>
-        ensures does { Does O.Kind.Share.kind (stands self.old.closed (O.Office.meaning self.old.below)) (yield lease) (told result) (stands self.new.closed (O.Office.meaning self.new.below)) }
+        ensures does { Does O.Kind.Share.kind (fickle_state self.old.closed (O.Office.meaning self.old.below)) (yield lease) (done_or_refused result) (fickle_state self.new.closed (O.Office.meaning self.new.below)) }
         ensures turns { self.new.closed ≡ flip (is_ok result) self.old.closed }
         ensures same { is_ok result ≡ false → self.new ≡ self.old }
         ensures unused { unused (O.Office.rows self.new.below) ≡ unused (O.Office.rows self.old.below) }
@@ -138,7 +138,7 @@ impl<O: Office> Office for Fickle<O> {
 
     #[tactic(auto, using(crate::proofs::Turning::merged))]
     fn merge(&mut self, a: u16, b: u16) -> Result<(), Refusal>
-        ensures does { Does O.Kind.Share.kind (stands self.old.closed (O.Office.meaning self.old.below)) (merge a b) (told result) (stands self.new.closed (O.Office.meaning self.new.below)) }
+        ensures does { Does O.Kind.Share.kind (fickle_state self.old.closed (O.Office.meaning self.old.below)) (merge a b) (done_or_refused result) (fickle_state self.new.closed (O.Office.meaning self.new.below)) }
         ensures turns { self.new.closed ≡ flip (is_ok result) self.old.closed }
         ensures same { is_ok result ≡ false → self.new ≡ self.old }
         ensures unused { unused (O.Office.rows self.new.below) ≡ unused (O.Office.rows self.old.below) }
@@ -152,7 +152,7 @@ impl<O: Office> Office for Fickle<O> {
 
     #[tactic(auto, using(crate::proofs::Turning::assigned))]
     fn assign(&mut self, lease: u16, holder: u16) -> Result<(), Refusal>
-        ensures does { Does O.Kind.Share.kind (stands self.old.closed (O.Office.meaning self.old.below)) (assign lease holder) (told result) (stands self.new.closed (O.Office.meaning self.new.below)) }
+        ensures does { Does O.Kind.Share.kind (fickle_state self.old.closed (O.Office.meaning self.old.below)) (assign lease holder) (done_or_refused result) (fickle_state self.new.closed (O.Office.meaning self.new.below)) }
         ensures turns { self.new.closed ≡ flip (is_ok result) self.old.closed }
         ensures same { is_ok result ≡ false → self.new ≡ self.old }
         ensures unused { unused (O.Office.rows self.new.below) ≡ unused (O.Office.rows self.old.below) }
@@ -166,7 +166,7 @@ impl<O: Office> Office for Fickle<O> {
 
     #[tactic(auto, using(crate::proofs::Turning::day_set))]
     fn set_day(&mut self, day: u16) -> Result<(), Refusal>
-        ensures does { Does O.Kind.Share.kind (stands self.old.closed (O.Office.meaning self.old.below)) (new_day day) (told result) (stands self.new.closed (O.Office.meaning self.new.below)) }
+        ensures does { Does O.Kind.Share.kind (fickle_state self.old.closed (O.Office.meaning self.old.below)) (new_day day) (done_or_refused result) (fickle_state self.new.closed (O.Office.meaning self.new.below)) }
         ensures turns { self.new.closed ≡ flip (is_ok result) self.old.closed }
         ensures same { is_ok result ≡ false → self.new ≡ self.old }
         ensures unused { unused (O.Office.rows self.new.below) ≡ unused (O.Office.rows self.old.below) }

@@ -4,8 +4,8 @@ ghost use Rattle.lending.specs.Limits.{most_rows};
 ghost use Rattle.lending.specs.Office.{State, new_ledger};
 ghost use Rattle.lending.specs.Promise.{LendingConserved};
 ghost use Rattle.office.specs.Lawful.{unused};
-ghost use Rattle.calls.specs.Listed.{SomeOffice};
-ghost use Rattle.fickle.specs.Fickles.{stands};
+ghost use Rattle.calls.specs.Lists.{SomeOffice};
+ghost use Rattle.fickle.specs.Objects.{fickle_state};
 ghost use Rattle.fickle.specs.Works.{Worked};
 
 use crate::fickle::Fickle;
@@ -58,7 +58,7 @@ pub fn work_fickle<'a, S: Share>(
     lease: u16,
     calls: &[Call],
 ) -> Answers
-    ensures worked { (t : State S) × Worked S.kind (SomeOffice ⟦<Fickle<Ledger<'a, S>> as Office>⟧.meaning ⟦<Fickle<Ledger<'a, S>> as Office>⟧.layers []) (stands false (new_ledger (min most_rows (length rows.old)))) resource holder lease calls.now result t }
+    ensures worked { (t : State S) × Worked S.kind (SomeOffice ⟦<Fickle<Ledger<'a, S>> as Office>⟧.meaning ⟦<Fickle<Ledger<'a, S>> as Office>⟧.layers []) (fickle_state false (new_ledger (min most_rows (length rows.old)))) resource holder lease calls.now result t }
     ensures always { LendingConserved S.kind }
 {
     work_at_new(rows, resource, holder, lease, calls)
@@ -72,7 +72,7 @@ fn work_at_new<'a, S: Share>(
     lease: u16,
     calls: &[Call],
 ) -> Answers
-    ensures worked { (t : State S) × Worked S.kind (SomeOffice ⟦<Fickle<Ledger<'a, S>> as Office>⟧.meaning ⟦<Fickle<Ledger<'a, S>> as Office>⟧.layers []) (stands false (new_ledger (min most_rows (length rows.old)))) resource holder lease calls.now result t }
+    ensures worked { (t : State S) × Worked S.kind (SomeOffice ⟦<Fickle<Ledger<'a, S>> as Office>⟧.meaning ⟦<Fickle<Ledger<'a, S>> as Office>⟧.layers []) (fickle_state false (new_ledger (min most_rows (length rows.old)))) resource holder lease calls.now result t }
     ensures always { LendingConserved S.kind }
 {
     let mut office = Fickle::over(Ledger::new(rows));

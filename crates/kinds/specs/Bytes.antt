@@ -3,9 +3,9 @@ use Rattle.std.specs.Prelude.{ℕ, Option, Some, None, ◌==◌, if◌then◌els
 use Rattle.kinds.specs.declared.kind.KindOfShare.{KindOfShare}
 use Rattle.kinds.specs.declared.kind.KindOfShare.TheVariants.{Trees, Counting}
 
-abbrev pub byte_of : KindOfShare → ℕ
-byte_of Trees = 1
-byte_of Counting = 2
+abbrev pub kind_byte : KindOfShare → ℕ
+kind_byte Trees = 1
+kind_byte Counting = 2
 
 -- the kind whose byte it is, if there is one
 abbrev pub kind_of_byte : ℕ → Option KindOfShare

@@ -1,6 +1,6 @@
 ghost use Rattle.std.specs.Prelude.{◌≡◌, Some, IfSome};
-ghost use Rattle.kinds.specs.Named.{name_of, Named};
-ghost use Rattle.kinds.specs.Bytes.{byte_of, kind_of_byte};
+ghost use Rattle.kinds.specs.Named.{kind_name, Named};
+ghost use Rattle.kinds.specs.Bytes.{kind_byte, kind_of_byte};
 
 use std::fmt;
 use std::str::FromStr;
@@ -24,7 +24,7 @@ pub struct NoSuchKind;
 impl KindOfShare {
     // The name of a kind.
     pub fn name(self) -> &'static str
-        ensures { result.now ≡ name_of self }
+        ensures { result.now ≡ kind_name self }
     {
         match self {
             KindOfShare::Trees => "trees",
@@ -35,7 +35,7 @@ impl KindOfShare {
     // The kind that a byte of a book stands for, if it stands for one.
     pub fn of_byte(byte: u8) -> Option<KindOfShare>
         ensures is { result ≡ kind_of_byte byte }
-        ensures byte { IfSome result (λ kind. byte_of kind ≡ byte) }
+        ensures byte { IfSome result (λ kind. kind_byte kind ≡ byte) }
     {
         match byte {
             1 => Some(KindOfShare::Trees),
@@ -47,7 +47,7 @@ impl KindOfShare {
 
 // A kind prints as its name.
 impl fmt::Display for KindOfShare {
-    ghost output = { λ kind. Some (name_of kind) };
+    ghost output = { λ kind. Some (kind_name kind) };
 
     fn fmt<W: fmt::Write>(&self, f: &mut fmt::Formatter<W>) -> fmt::Result {
         f.write_str(self.name())

@@ -1,2 +1,2 @@
-pub mod Asked
+pub mod Requests
 pub mod Lawful

@@ -1,8 +1,8 @@
 ghost use Rattle.std.specs.Prelude.{◌≡◌, ◌∷◌, MatchResult};
 ghost use Rattle.lending.specs.Office.{SetUp};
 ghost use Rattle.lending.specs.Layers.{layered};
-ghost use Rattle.lending.specs.Told.{number_of};
-ghost use Rattle.layer.specs.Asked.{requested};
+ghost use Rattle.lending.specs.Answers.{reason_number};
+ghost use Rattle.layer.specs.Requests.{request_meant};
 ghost use Rattle.layer.specs.Lawful.{layer_lawful, layer_follows};
 
 use crate::rule::{Request, Rule};
@@ -44,7 +44,7 @@ impl<O: Office, R: Rule<O>> Layer<O, R> {
 
     // Refuses what the rule objects to.
     fn allow(&self, request: Request) -> Result<(), Refusal>
-        ensures { let s = O.Office.meaning self.now.below in let mine = R.Rule.objects self.now.rule s.core.roll s.core.today (requested request) in MatchResult result (λ x. mine ≡ None) (λ refusal. (mine ≡ Some (number_of refusal.reason)) × (refusal.level ≡ 0)) }
+        ensures { let s = O.Office.meaning self.now.below in let mine = R.Rule.objects self.now.rule s.core.roll s.core.today (request_meant request) in MatchResult result (λ x. mine ≡ None) (λ refusal. (mine ≡ Some (reason_number refusal.reason)) × (refusal.level ≡ 0)) }
     {
         match self.rule.objection(&self.below, request) {
             Some(reason) => Err(reason.into()),

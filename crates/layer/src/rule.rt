@@ -1,8 +1,8 @@
 ghost use Rattle.std.specs.Prelude.{◌≡◌};
 ghost use Rattle.std.specs.Option.{option_map};
 ghost use Rattle.lending.specs.Layers.{Own};
-ghost use Rattle.lending.specs.Told.{number_of};
-ghost use Rattle.layer.specs.Asked.{requested};
+ghost use Rattle.lending.specs.Answers.{reason_number};
+ghost use Rattle.layer.specs.Requests.{request_meant};
 
 use lending::Reason;
 use office::Office;
@@ -22,5 +22,5 @@ pub trait Rule<O: Office> {
 
     // The reason why it objects to a request, if it does.
     fn objection(&self, below: &O, request: Request) -> Option<Reason>
-        ensures { option_map number_of result ≡ objects self.now (O.Office.meaning below.now).core.roll (O.Office.meaning below.now).core.today (requested request) };
+        ensures { option_map reason_number result ≡ objects self.now (O.Office.meaning below.now).core.roll (O.Office.meaning below.now).core.today (request_meant request) };
 }

@@ -11,7 +11,7 @@ use Rattle.lending.proofs.Order.{orderly_rises, orderly_so, orderly_close}
 use Rattle.office.specs.Lawful.{unused}
 use Rattle.ledger.specs.declared.ledger.Ledger.{Ledger}
 use Rattle.ledger.specs.Rows.{Found}
-use Rattle.ledger.specs.Means.{lent_to, Stands}
+use Rattle.ledger.specs.Means.{loan_of, Stands}
 use Rattle.ledger.proofs.Fronts.{orderly_take}
 use Rattle.ledger.proofs.Gaps.{gap_roll, gap_rest}
 
@@ -20,7 +20,7 @@ module _ {S : Type 0} where
   same_core xs ys i d c e p q = ap (λ (r : List (Lease S)). record { roll = r; issued = i; today = d; capacity = c; depth = 0 }) p ∙ ap (λ (r : ℕ). record { roll = ys; issued = i; today = d; capacity = r; depth = 0 }) q
 
   -- a ledger whose rows became another list of as many
-  pub stands : (l was : Ledger S) (roll : List (Lease S)) → take l.count l.rows.now ≡ roll → length l.rows.now ≡ length was.rows.now → unused l.rows.now ≡ unused was.rows.now → lent_to l ≡ lent_to was → Stands l was (record { roll = roll; issued = l.issued; today = l.today; capacity = min most_rows (length was.rows.now); depth = 0 })
+  pub stands : (l was : Ledger S) (roll : List (Lease S)) → take l.count l.rows.now ≡ roll → length l.rows.now ≡ length was.rows.now → unused l.rows.now ≡ unused was.rows.now → loan_of l ≡ loan_of was → Stands l was (record { roll = roll; issued = l.issued; today = l.today; capacity = min most_rows (length was.rows.now); depth = 0 })
   stands l was roll holds len rest lent = record { core = same_core (take l.count l.rows.now) roll l.issued l.today (min most_rows (length l.rows.now)) (min most_rows (length was.rows.now)) holds (ap (min most_rows) len); rest = rest; lent = lent }
 
   module _ (l : Ledger S) where

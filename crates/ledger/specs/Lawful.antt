@@ -5,13 +5,13 @@ use Rattle.std.proofs.Common.{ap, arith, length-take}
 use Rattle.lending.specs.Layers.{Follow}
 use Rattle.office.specs.Lawful.{Lawful}
 use Rattle.ledger.specs.declared.ledger.Ledger.{Ledger}
-use Rattle.ledger.specs.Means.{means, rows_in}
+use Rattle.ledger.specs.Means.{means, rows_of}
 
-pub ledger_lawful : {S : Type 0} (l : Ledger S) → Lawful (means l) (rows_in l)
+pub ledger_lawful : {S : Type 0} (l : Ledger S) → Lawful (means l) (rows_of l)
 ledger_lawful l = record {
   capacity = refl;
   fits = simp length-take (omega (arith, l.fits));
-  stands = ap (λ n. take n (rows_in l)) (simp length-take (let h = l.fits in omega arith));
+  stands = ap (λ n. take n (rows_of l)) (simp length-take (let h = l.fits in omega arith));
   numbers = l.numbers;
   days = l.days;
   orderly = l.orderly;

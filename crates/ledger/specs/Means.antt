@@ -21,15 +21,15 @@ module _ {S : Type 0} where
   }
 
   -- what its rows hold
-  abbrev pub rows_in : Ledger S → List (Lease S)
-  rows_in l = l.rows.now
+  abbrev pub rows_of : Ledger S → List (Lease S)
+  rows_of l = l.rows.now
 
   -- which loan of rows it has: the name of the reference that was lent to it
-  abbrev pub lent_to : Ledger S → ℕ
-  lent_to l = l.rows.ghost_name
+  abbrev pub loan_of : Ledger S → ℕ
+  loan_of l = l.rows.ghost_name
 
   -- the ledger `was` has become l, which stands for this, with the same rows
   pub record Stands (l was : Ledger S) (c : Core S) : Type 0 where
     pub core : (means l).core ≡ c
-    pub rest : unused (rows_in l) ≡ unused (rows_in was)
-    pub lent : lent_to l ≡ lent_to was
+    pub rest : unused (rows_of l) ≡ unused (rows_of was)
+    pub lent : loan_of l ≡ loan_of was

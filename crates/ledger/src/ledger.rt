@@ -31,16 +31,16 @@ impl<'a, S: Share> Ledger<'a, S> {
     ghost use Rattle.lending.specs.Limits.{within_range};
     ghost use Rattle.lending.specs.Office.{SetUp, new_ledger, issue, with_roll};
     ghost use Rattle.lending.specs.Roll.{find, is_open, lends, change, close, with_holder};
-    ghost use Rattle.lending.specs.Calls.{rows_full, first_lease, lent_out, given_back, merged_into, bad_due_day, due_by, unlike};
+    ghost use Rattle.lending.specs.Calls.{rows_full, first_lease, after_delegate, after_yield, after_merge, bad_due_day, due_by, unlike};
     ghost use Rattle.ledger.specs.Rows.{At, Looked};
-    ghost use Rattle.ledger.specs.Means.{means, rows_in, lent_to, Stands};
+    ghost use Rattle.ledger.specs.Means.{means, rows_of, loan_of, Stands};
 
     // A ledger over these rows, set up empty: no leases, nothing issued, and today is day 0.
     pub fn new(rows: &'a mut [Lease<S>]) -> Ledger<'a, S>
         ensures stands { means result ≡ new_ledger (min most_rows (length rows.old)) }
         ensures set_up { SetUp (means result) }
-        ensures rows { rows_in result ≡ rows.old }
-        ensures lent { lent_to result ≡ rows.entry.ghost_name }
+        ensures rows { rows_of result ≡ rows.old }
+        ensures lent { loan_of result ≡ rows.entry.ghost_name }
     {
         Ledger {
             rows,
@@ -52,8 +52,8 @@ impl<'a, S: Share> Ledger<'a, S> {
 
     // Ends the ledger and gives its rows back, as they are: the roll stands in the first of them.
     pub fn into_rows(self) -> &'a mut [Lease<S>]
-        ensures rows { result.now ≡ rows_in self.entry }
-        ensures lent { result.ghost_name ≡ lent_to self.entry }
+        ensures rows { result.now ≡ rows_of self.entry }
+        ensures lent { result.ghost_name ≡ loan_of self.entry }
         ensures roll { take (length (means self.entry).core.roll) result.now ≡ (means self.entry).core.roll }
     {
         let Ledger { rows, .. } = self;
@@ -188,7 +188,7 @@ impl<'a, S: Share> Ledger<'a, S> {
         requires number { self.old.issued < last_number }
         requires row { rows_full (means self.old) ≡ false }
         ensures number { result ≡ self.old.issued + 1 }
-        ensures stands { Stands self.new self.old (lent_out (means self.old) lender holder due kept lent).core }
+        ensures stands { Stands self.new self.old (after_delegate (means self.old) lender holder due kept lent).core }
     {
         self.rewrite(Lease {
             share: kept,
@@ -207,7 +207,7 @@ impl<'a, S: Share> Ledger<'a, S> {
     // Closes a lease, and joins its share to its lender's.
     fn take_back(&mut self, closed: Lease<S>)
         requires { find (means self.old).core.roll closed.number ≡ Some closed }
-        ensures { Stands self.new self.old (given_back S.Share.kind (means self.old) closed).core }
+        ensures { Stands self.new self.old (after_yield S.Share.kind (means self.old) closed).core }
     {
         self.close(closed.number);
         if let Some(lender) = self.find(closed.lender) {
@@ -222,7 +222,7 @@ impl<'a, S: Share> Ledger<'a, S> {
         requires b { find (means self.old).core.roll b.number ≡ Some b }
         requires order { a.number < b.number }
         requires alike { unlike a b ≡ false }
-        ensures { Stands self.new self.old (merged_into S.Share.kind (means self.old) a b).core }
+        ensures { Stands self.new self.old (after_merge S.Share.kind (means self.old) a b).core }
     {
         let share = join_or_keep(a.share, b.share);
         self.close(b.number);

@@ -7,10 +7,10 @@ use Rattle.lending.specs.Promise.{Conserved, LendingConserved}
 use Rattle.lending.proofs.Plays.{plays_are_histories_lem}
 use Rattle.calls.specs.declared.call.Call.{Call}
 use Rattle.calls.specs.declared.list.Tallies.{Tallies}
-use Rattle.calls.specs.Values.{called}
-use Rattle.calls.specs.Played.{Played}
-use Rattle.calls.specs.Played.{in_turn}
-use Rattle.lender.specs.Lent.{layers, new_office, made}
+use Rattle.calls.specs.Values.{call_meant}
+use Rattle.calls.specs.Plays.{CallsPlayed}
+use Rattle.calls.specs.Plays.{play_in_turn}
+use Rattle.lender.specs.NewOffice.{layers, new_office, play_at_new}
 
 module _ {S : Type 0} where
   pub three_layers : (quota term chain : Own S) (a b c below : Layers S) → c ≡ chain ∷ below → b ≡ term ∷ c → a ≡ quota ∷ b → a ≡ quota ∷ term ∷ chain ∷ below
@@ -20,8 +20,8 @@ module _ {S : Type 0} where
   three_stand quota term chain a b c s e f g = g ∙ ap (layered quota) (f ∙ ap (layered term) e)
 
   module _ (K : Kind S) where
-    pub played_there : (ls others : Layers S) (s v t : State S) (calls : List Call) (tallies : Tallies) → ls ≡ others → s ≡ v → Played K ls s calls tallies t → Played K others v calls tallies (in_turn K others v calls).1
-    played_there ls others s v t calls tallies e f p = subst (λ (l : Layers S). Played K l v calls tallies (in_turn K l v calls).1) e (subst (λ (x : State S). Played K ls x calls tallies (in_turn K ls x calls).1) f
+    pub played_there : (ls others : Layers S) (s v t : State S) (calls : List Call) (tallies : Tallies) → ls ≡ others → s ≡ v → CallsPlayed K ls s calls tallies t → CallsPlayed K others v calls tallies (play_in_turn K others v calls).1
+    played_there ls others s v t calls tallies e f p = subst (λ (l : Layers S). CallsPlayed K l v calls tallies (play_in_turn K l v calls).1) e (subst (λ (x : State S). CallsPlayed K ls x calls tallies (play_in_turn K ls x calls).1) f
         record {
           leaves = refl;
           yields = p.yields;
@@ -30,12 +30,12 @@ module _ {S : Type 0} where
           lapses = p.lapses;
         })
 
-    pub roll_there : (ls others : Layers S) (s v t : State S) (calls : List Call) (tallies : Tallies) → ls ≡ others → s ≡ v → Played K ls s calls tallies t → t.core.roll ≡ (in_turn K others v calls).1.core.roll
-    roll_there ls others s v t calls tallies e f p = ap (λ (x : State S). x.core.roll) (p.leaves ∙ ap₂ (λ (l : Layers S) (x : State S). (in_turn K l x calls).1) e f)
+    pub roll_there : (ls others : Layers S) (s v t : State S) (calls : List Call) (tallies : Tallies) → ls ≡ others → s ≡ v → CallsPlayed K ls s calls tallies t → t.core.roll ≡ (play_in_turn K others v calls).1.core.roll
+    roll_there ls others s v t calls tallies e f p = ap (λ (x : State S). x.core.roll) (p.leaves ∙ ap₂ (λ (l : Layers S) (x : State S). (play_in_turn K l x calls).1) e f)
 
-    pub made_conserved : LendingConserved K → (quota term chain rows : ℕ) (calls : List Call) → Conserved K (made K quota term chain rows calls).0 (made K quota term chain rows calls).1
+    pub made_conserved : LendingConserved K → (quota term chain rows : ℕ) (calls : List Call) → Conserved K (play_at_new K quota term chain rows calls).0 (play_at_new K quota term chain rows calls).1
     made_conserved always quota term chain rows calls =
         let ls = layers quota term chain in
         let s = new_office quota term chain rows in
-        let cs = reverse (map called calls) in
-        always s (made K quota term chain rows calls).1 (record { no_leases = refl; none_issued = refl; first_day = refl }) (made K quota term chain rows calls).0 (plays_are_histories_lem K ls s cs)
+        let cs = reverse (map call_meant calls) in
+        always s (play_at_new K quota term chain rows calls).1 (record { no_leases = refl; none_issued = refl; first_day = refl }) (play_at_new K quota term chain rows calls).0 (plays_are_histories_lem K ls s cs)

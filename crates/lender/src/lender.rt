@@ -2,8 +2,8 @@ ghost use Rattle.std.specs.Prelude.{◌≡◌, ◌++◌, length, take};
 ghost use Rattle.lending.specs.Layers.{pile};
 ghost use Rattle.lending.specs.Promise.{Conserved, LendingConserved};
 ghost use Rattle.office.specs.Lawful.{unused};
-ghost use Rattle.calls.specs.Played.{in_turn, Played};
-ghost use Rattle.lender.specs.Lent.{layers, new_office, made};
+ghost use Rattle.calls.specs.Plays.{play_in_turn, CallsPlayed};
+ghost use Rattle.lender.specs.NewOffice.{layers, new_office, play_at_new};
 
 use calls::{Call, Tallies, make_all};
 use chain::Chain;
@@ -24,11 +24,11 @@ pub fn lend_rows<S: Share>(
     chain: u16,
     calls: &[Call],
 ) -> Tallies
-    ensures played { Played S.kind (layers quota term chain) (new_office quota term chain (length rows.old)) calls.now result (made S.kind quota term chain (length rows.old) calls.now).1 }
-    ensures roll { let t = (made S.kind quota term chain (length rows.old) calls.now).1 in take (length t.core.roll) rows.new ≡ t.core.roll }
+    ensures played { CallsPlayed S.kind (layers quota term chain) (new_office quota term chain (length rows.old)) calls.now result (play_at_new S.kind quota term chain (length rows.old) calls.now).1 }
+    ensures roll { let t = (play_at_new S.kind quota term chain (length rows.old) calls.now).1 in take (length t.core.roll) rows.new ≡ t.core.roll }
     ensures unused { unused rows.new ≡ unused rows.old }
     ensures length { length rows.new ≡ length rows.old }
-    ensures conserved { let p = made S.kind quota term chain (length rows.old) calls.now in Conserved S.kind p.0 p.1 }
+    ensures conserved { let p = play_at_new S.kind quota term chain (length rows.old) calls.now in Conserved S.kind p.0 p.1 }
     ensures always { LendingConserved S.kind }
 {
     lending_is_conserved::<S>();
@@ -44,8 +44,8 @@ fn make_in<'a, S: Share>(
     chain: u16,
     calls: &[Call],
 ) -> (Tallies, &'a mut [Lease<S>])
-    ensures played { Played S.kind (layers quota term chain) (new_office quota term chain (length rows.old)) calls.now result.0 (made S.kind quota term chain (length rows.old) calls.now).1 }
-    ensures roll { let t = (made S.kind quota term chain (length rows.old) calls.now).1 in take (length t.core.roll) result.1.now ≡ t.core.roll }
+    ensures played { CallsPlayed S.kind (layers quota term chain) (new_office quota term chain (length rows.old)) calls.now result.0 (play_at_new S.kind quota term chain (length rows.old) calls.now).1 }
+    ensures roll { let t = (play_at_new S.kind quota term chain (length rows.old) calls.now).1 in take (length t.core.roll) result.1.now ≡ t.core.roll }
     ensures unused { unused result.1.now ≡ unused rows.old }
     ensures lent { result.1.ghost_name ≡ rows.entry.ghost_name }
 {
@@ -55,8 +55,8 @@ fn make_in<'a, S: Share>(
 
 // The calls made through the three layers over an office. Gives that office back, beside the tallies.
 fn make_over<O: Piled>(below: O, quota: u16, term: u16, chain: u16, calls: &[Call]) -> (Tallies, O)
-    ensures played { let ls = layers quota term chain in Played O.Kind.Share.kind (ls ++ O.Office.layers below) (pile ls (O.Office.meaning below)) calls.now result.0 (in_turn O.Kind.Share.kind (ls ++ O.Office.layers below) (pile ls (O.Office.meaning below)) calls.now).1 }
-    ensures roll { let ls = layers quota term chain in (O.Office.meaning result.1).core.roll ≡ (in_turn O.Kind.Share.kind (ls ++ O.Office.layers below) (pile ls (O.Office.meaning below)) calls.now).1.core.roll }
+    ensures played { let ls = layers quota term chain in CallsPlayed O.Kind.Share.kind (ls ++ O.Office.layers below) (pile ls (O.Office.meaning below)) calls.now result.0 (play_in_turn O.Kind.Share.kind (ls ++ O.Office.layers below) (pile ls (O.Office.meaning below)) calls.now).1 }
+    ensures roll { let ls = layers quota term chain in (O.Office.meaning result.1).core.roll ≡ (play_in_turn O.Kind.Share.kind (ls ++ O.Office.layers below) (pile ls (O.Office.meaning below)) calls.now).1.core.roll }
     ensures unused { unused (O.Office.rows result.1) ≡ unused (O.Office.rows below) }
     ensures lent { O.Office.lent result.1 ≡ O.Office.lent below }
 {
@@ -82,7 +82,7 @@ fn pile_over<O: Office>(
 
 // Makes the calls at an office whose objections follow from its layers, so that what they come to is worked out.
 fn make_piled<O: Piled>(office: &mut O, calls: &[Call]) -> Tallies
-    ensures played { Played O.Kind.Share.kind (O.Office.layers office.old) (O.Office.meaning office.old) calls.now result (O.Office.meaning office.new) }
+    ensures played { CallsPlayed O.Kind.Share.kind (O.Office.layers office.old) (O.Office.meaning office.old) calls.now result (O.Office.meaning office.new) }
     ensures unused { unused (O.Office.rows office.new) ≡ unused (O.Office.rows office.old) }
     ensures lent { O.Office.lent office.new ≡ O.Office.lent office.old }
 {

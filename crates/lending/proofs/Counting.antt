@@ -10,7 +10,7 @@ use Rattle.lending.specs.Office.{Core, Refusal, State, issue, with_roll, with_to
 use Rattle.lending.specs.Outcome.{Call, Answer, Outcome, unless, need_live, need_halves, tell_at, and_then, answering}
 use Rattle.lending.specs.Roll.{find, live, change, close, lends, is_open, with_share, with_holder, plus, family}
 use Rattle.lending.specs.Above.{yields, downward, recall_all}
-use Rattle.lending.specs.Calls.{due_by, do_yield, do_set_day, first_lease, bad_due_day, unlike, lent_out, given_back, merged_into, numbers_out, rows_full, bad_day}
+use Rattle.lending.specs.Calls.{due_by, do_yield, do_set_day, first_lease, bad_due_day, unlike, after_delegate, after_yield, after_merge, numbers_out, rows_full, bad_day}
 use Rattle.lending.specs.Perform.{perform, Ends, Does}
 use Rattle.lending.specs.History.{Moment, Leads, yielded, merged, recalled, lapsed}
 use Rattle.lending.specs.Limits.{within_range}
@@ -79,7 +79,7 @@ module _ {S : Type 0} (K : Kind S) where
       checks = (lends s.core.roll n, 9) ∷ []
 
       out : Lease S → Outcome S
-      out l = grants done (given_back K s l)
+      out l = grants done (after_yield K s l)
 
       end : (l : Lease S) → find s.core.roll n ≡ Some l → P (out l)
       end l found =
@@ -141,7 +141,7 @@ module _ {S : Type 0} (K : Kind S) where
         checks₂ = (numbers_out s, 4) ∷ (rows_full s, 5) ∷ []
 
         out₃ : Lease S → S → S → Outcome S
-        out₃ l kept lent = grants (number (s.core.issued + 1)) (lent_out s l h d kept lent)
+        out₃ l kept lent = grants (number (s.core.issued + 1)) (after_delegate s l h d kept lent)
 
         out₂ : Lease S → S → S → Outcome S
         out₂ l kept lent = unless s.core.depth checks₂ (out₃ l kept lent)
@@ -176,7 +176,7 @@ module _ {S : Type 0} (K : Kind S) where
         checks x y = (leb b a, 10) ∷ (unlike x y, 11) ∷ []
 
         out₃ : Lease S → Lease S → Outcome S
-        out₃ x y = grants done (merged_into K s x y)
+        out₃ x y = grants done (after_merge K s x y)
 
         out₂ : Lease S → Lease S → Outcome S
         out₂ x y = unless s.core.depth (checks x y) (out₃ x y)

@@ -12,7 +12,7 @@ use Rattle.lending.specs.Outcome.{Answer, Outcome, unless, need_live, and_then, 
 use Rattle.lending.specs.Outcome.Answer.{done, number}
 use Rattle.lending.specs.Outcome.Call.{yield, new_day, day}
 use Rattle.lending.specs.Outcome.Outcome.{refuses, tells, grants}
-use Rattle.lending.specs.Calls.{do_yield, given_back, bad_day, due_by}
+use Rattle.lending.specs.Calls.{do_yield, after_yield, bad_day, due_by}
 use Rattle.lending.specs.Above.{yields, downward, recall_all}
 use Rattle.lending.specs.Perform.{Ends, Does}
 use Rattle.lending.proofs.Rolls.{find_in, rising_above}
@@ -47,12 +47,12 @@ module _ {S : Type 0} (K : Kind S) where
   yields_core [] s u o e = let z : s ≡ u = cc in ap (λ (v : State S). grants done (objecting o v)) z
   yields_core (n ∷ ns) s u o e = go (find s.core.roll n) (lends s.core.roll n) e (λ t f. yields_core ns t u o f)
     where
-      go : (m : Option (Lease S)) (b : Bool) → and_then (need_live s.core.depth m (λ l. unless s.core.depth ((b, 9) ∷ []) (grants done (given_back K s l)))) (λ t. yields K t ns) ≡ grants done u
+      go : (m : Option (Lease S)) (b : Bool) → and_then (need_live s.core.depth m (λ l. unless s.core.depth ((b, 9) ∷ []) (grants done (after_yield K s l)))) (λ t. yields K t ns) ≡ grants done u
           → ((t : State S) → yields K t ns ≡ grants done u → yields K (objecting o t) ns ≡ grants done (objecting o u))
-          → and_then (need_live s.core.depth m (λ l. unless s.core.depth ((b, 9) ∷ []) (grants done (given_back K (objecting o s) l)))) (λ t. yields K t ns) ≡ grants done (objecting o u)
+          → and_then (need_live s.core.depth m (λ l. unless s.core.depth ((b, 9) ∷ []) (grants done (after_yield K (objecting o s) l)))) (λ t. yields K t ns) ≡ grants done (objecting o u)
       go None b f ih = absurd (let z : ◌≡◌ {A = ℕ} 0 1 = cc in omega arith)
       go (Some l) true f ih = absurd (let z : ◌≡◌ {A = ℕ} 0 1 = cc in omega arith)
-      go (Some l) false f ih = ih (given_back K s l) f
+      go (Some l) false f ih = ih (after_yield K s l) f
 
   -- after one yield by an office, the others are still granted
   pub yields_on : (n : ℕ) (ns : List ℕ) (s t u : State S) (a : Answer S) → yields K s (n ∷ ns) ≡ grants done u → Does K s (yield n) a t → yields K t ns ≡ grants done (objecting t.objections u)

@@ -13,10 +13,10 @@ use Rattle.lending.specs.Outcome.Call.{open_resource, delegate, yield, merge, as
 use Rattle.lending.specs.Outcome.Outcome.{refuses, tells, grants}
 use Rattle.lending.specs.Limits.{within_range}
 use Rattle.lending.specs.Roll.{find, live, family, is_open, lends, change, with_holder}
-use Rattle.lending.specs.Calls.{numbers_out, rows_full, first_lease, bad_due_day, lent_out, given_back, unlike, merged_into, bad_day, due_by, do_open, do_delegate, do_yield, do_merge, do_assign, do_set_day}
+use Rattle.lending.specs.Calls.{numbers_out, rows_full, first_lease, bad_due_day, after_delegate, after_yield, unlike, after_merge, bad_day, due_by, do_open, do_delegate, do_yield, do_merge, do_assign, do_set_day}
 use Rattle.lending.specs.Above.{yields, downward, recall_all, do_recall, do_day}
 use Rattle.lending.specs.Perform.{perform, Ends, Does}
-use Rattle.lending.specs.Told.{told, told_number}
+use Rattle.lending.specs.Answers.{done_or_refused, number_or_refused}
 use Rattle.lending.specs.Idle.{idle}
 
 module _ {S : Type 0} where
@@ -52,8 +52,8 @@ module _ {S : Type 0} where
 
   module _ (K : Kind S) where
     acts_yield : (s : State S) (n : ℕ) → Acts (do_yield K s n)
-    acts_yield s n = acts_live s.core.depth (find s.core.roll n) (λ l. unless s.core.depth ((lends s.core.roll n, 9) ∷ []) (grants done (given_back K s l)))
-        (λ l. acts_unless s.core.depth ((lends s.core.roll n, 9) ∷ []) (grants done (given_back K s l)) acts_granted)
+    acts_yield s n = acts_live s.core.depth (find s.core.roll n) (λ l. unless s.core.depth ((lends s.core.roll n, 9) ∷ []) (grants done (after_yield K s l)))
+        (λ l. acts_unless s.core.depth ((lends s.core.roll n, 9) ∷ []) (grants done (after_yield K s l)) acts_granted)
 
     pub acts_yields : (s : State S) (ns : List ℕ) → Acts (yields K s ns)
     acts_yields s [] = acts_granted
@@ -82,7 +82,7 @@ module _ {S : Type 0} where
         checks₂ = (numbers_out s, 4) ∷ (rows_full s, 5) ∷ []
 
         out : Lease S → S → S → Outcome S
-        out l kept lent = grants (number (s.core.issued + 1)) (lent_out s l h d kept lent)
+        out l kept lent = grants (number (s.core.issued + 1)) (after_delegate s l h d kept lent)
 
         halved : Lease S → S → S → Outcome S
         halved l kept lent = unless s.core.depth checks₂ (out l kept lent)
@@ -91,13 +91,13 @@ module _ {S : Type 0} where
         whole l = unless s.core.depth (checks₁ l) (need_halves s.core.depth (K.halve l.share) (halved l))
 
     acts_merge : (s : State S) (a b : ℕ) → Acts (do_merge K s a b)
-    acts_merge s a b = acts_live s.core.depth (find s.core.roll a) first (λ x. acts_live s.core.depth (find s.core.roll b) (second x) (λ y. acts_unless s.core.depth (checks x y) (grants done (merged_into K s x y)) acts_granted))
+    acts_merge s a b = acts_live s.core.depth (find s.core.roll a) first (λ x. acts_live s.core.depth (find s.core.roll b) (second x) (λ y. acts_unless s.core.depth (checks x y) (grants done (after_merge K s x y)) acts_granted))
       where
         checks : Lease S → Lease S → List (Bool × ℕ)
         checks x y = (nat_le b a, 10) ∷ (unlike x y, 11) ∷ []
 
         second : Lease S → Lease S → Outcome S
-        second x y = unless s.core.depth (checks x y) (grants done (merged_into K s x y))
+        second x y = unless s.core.depth (checks x y) (grants done (after_merge K s x y))
 
         first : Lease S → Outcome S
         first x = need_live s.core.depth (find s.core.roll b) (second x)
@@ -126,39 +126,39 @@ module _ {S : Type 0} where
         let all : Outcome S = and_then (yields K s ns) set in
         acts_unless 0 ((bad_day s d, 13) ∷ []) (and_then all (grants (number (length ns)))) (acts_then all (grants (number (length ns))) (acts_then (yields K s ns) set (acts_yields s ns) (λ t. acts_day t d)) (λ t. acts_granted))
 
-  idle_number : (o : Outcome S) (s t : State S) (r : Result ℕ code.Refusal) → Acts o → Ends o s (told_number r) t → idle o ≡ true → is_ok r ≡ false
+  idle_number : (o : Outcome S) (s t : State S) (r : Result ℕ code.Refusal) → Acts o → Ends o s (number_or_refused r) t → idle o ≡ true → is_ok r ≡ false
   idle_number (refuses f) s t (Ok k) a d i = absurd (let z : ◌≡◌ {A = ℕ} 0 1 = (let w = d.0 in cc) in omega arith)
   idle_number (refuses f) s t (Err g) a d i = refl
   idle_number (tells x) s t r a d i = elim a [ ]
   idle_number (grants x u) s t r a d i = absurd (let z : ◌≡◌ {A = ℕ} 0 1 = cc in omega arith)
 
-  idle_done : (o : Outcome S) (s t : State S) (r : Result (Unit {0}) code.Refusal) → Acts o → Ends o s (told r) t → idle o ≡ true → is_ok r ≡ false
+  idle_done : (o : Outcome S) (s t : State S) (r : Result (Unit {0}) code.Refusal) → Acts o → Ends o s (done_or_refused r) t → idle o ≡ true → is_ok r ≡ false
   idle_done (refuses f) s t (Ok k) a d i = absurd (let z : ◌≡◌ {A = ℕ} 0 1 = (let w = d.0 in cc) in omega arith)
   idle_done (refuses f) s t (Err g) a d i = refl
   idle_done (tells x) s t r a d i = elim a [ ]
   idle_done (grants x u) s t r a d i = absurd (let z : ◌≡◌ {A = ℕ} 0 1 = cc in omega arith)
 
   module _ (K : Kind S) (s t : State S) where
-    pub idle_open : (r h : ℕ) (x : Result ℕ code.Refusal) → Does K s (open_resource r h) (told_number x) t → idle (perform K s (open_resource r h)) ≡ true → is_ok x ≡ false
+    pub idle_open : (r h : ℕ) (x : Result ℕ code.Refusal) → Does K s (open_resource r h) (number_or_refused x) t → idle (perform K s (open_resource r h)) ≡ true → is_ok x ≡ false
     idle_open r h x d i = idle_number (do_open K s r h) s t x (acts_open K s r h) d i
 
-    pub idle_delegate : (p h d : ℕ) (x : Result ℕ code.Refusal) → Does K s (delegate p h d) (told_number x) t → idle (perform K s (delegate p h d)) ≡ true → is_ok x ≡ false
+    pub idle_delegate : (p h d : ℕ) (x : Result ℕ code.Refusal) → Does K s (delegate p h d) (number_or_refused x) t → idle (perform K s (delegate p h d)) ≡ true → is_ok x ≡ false
     idle_delegate p h d x e i = idle_number (do_delegate K s p h d) s t x (acts_delegate K s p h d) e i
 
-    pub idle_yield : (n : ℕ) (x : Result (Unit {0}) code.Refusal) → Does K s (yield n) (told x) t → idle (perform K s (yield n)) ≡ true → is_ok x ≡ false
+    pub idle_yield : (n : ℕ) (x : Result (Unit {0}) code.Refusal) → Does K s (yield n) (done_or_refused x) t → idle (perform K s (yield n)) ≡ true → is_ok x ≡ false
     idle_yield n x d i = idle_done (do_yield K s n) s t x (acts_yield K s n) d i
 
-    pub idle_merge : (a b : ℕ) (x : Result (Unit {0}) code.Refusal) → Does K s (merge a b) (told x) t → idle (perform K s (merge a b)) ≡ true → is_ok x ≡ false
+    pub idle_merge : (a b : ℕ) (x : Result (Unit {0}) code.Refusal) → Does K s (merge a b) (done_or_refused x) t → idle (perform K s (merge a b)) ≡ true → is_ok x ≡ false
     idle_merge a b x d i = idle_done (do_merge K s a b) s t x (acts_merge K s a b) d i
 
-    pub idle_assign : (n h : ℕ) (x : Result (Unit {0}) code.Refusal) → Does K s (assign n h) (told x) t → idle (perform K s (assign n h)) ≡ true → is_ok x ≡ false
+    pub idle_assign : (n h : ℕ) (x : Result (Unit {0}) code.Refusal) → Does K s (assign n h) (done_or_refused x) t → idle (perform K s (assign n h)) ≡ true → is_ok x ≡ false
     idle_assign n h x d i = idle_done (do_assign s n h) s t x (acts_assign K s n h) d i
 
-    pub idle_day : (d : ℕ) (x : Result (Unit {0}) code.Refusal) → Does K s (new_day d) (told x) t → idle (perform K s (new_day d)) ≡ true → is_ok x ≡ false
+    pub idle_day : (d : ℕ) (x : Result (Unit {0}) code.Refusal) → Does K s (new_day d) (done_or_refused x) t → idle (perform K s (new_day d)) ≡ true → is_ok x ≡ false
     idle_day d x e i = idle_done (do_set_day s d) s t x (acts_day K s d) e i
 
-    pub idle_recall : (n : ℕ) (x : Result ℕ code.Refusal) → Does K s (recall n) (told_number x) t → idle (perform K s (recall n)) ≡ true → is_ok x ≡ false
+    pub idle_recall : (n : ℕ) (x : Result ℕ code.Refusal) → Does K s (recall n) (number_or_refused x) t → idle (perform K s (recall n)) ≡ true → is_ok x ≡ false
     idle_recall n x d i = idle_number (do_recall K s n) s t x (acts_recall K s n) d i
 
-    pub idle_next : (d : ℕ) (x : Result ℕ code.Refusal) → Does K s (day d) (told_number x) t → idle (perform K s (day d)) ≡ true → is_ok x ≡ false
+    pub idle_next : (d : ℕ) (x : Result ℕ code.Refusal) → Does K s (day d) (number_or_refused x) t → idle (perform K s (day d)) ≡ true → is_ok x ≡ false
     idle_next d x e i = idle_number (do_day K s d) s t x (acts_next K s d) e i

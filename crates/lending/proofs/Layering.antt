@@ -10,7 +10,7 @@ use Rattle.lending.specs.Outcome.{Call, Answer, Outcome, refused_at, unless, unl
 use Rattle.lending.specs.Roll.{find, is_open, lends, change, with_holder}
 use Rattle.lending.specs.Perform.{perform, Ends}
 use Rattle.lending.specs.Limits.{within_range}
-use Rattle.lending.specs.Calls.{numbers_out, rows_full, first_lease, bad_due_day, lent_out, given_back, unlike, merged_into, bad_day, due_by}
+use Rattle.lending.specs.Calls.{numbers_out, rows_full, first_lease, bad_due_day, after_delegate, after_yield, unlike, after_merge, bad_day, due_by}
 use Rattle.lending.specs.Office.Request.{opening, delegating, assigning}
 use Rattle.lending.specs.Outcome.Call.{open_resource, delegate, yield, merge, assign, new_day, ask_count, ask_issued, ask_today, ask_lease_at, ask_lease, recall, day, standing, hand_in}
 use Rattle.lending.specs.Outcome.Answer.{done, number, lease, refused}
@@ -90,7 +90,7 @@ module _ {S : Type 0} where
         (up_live s.core.depth (find s.core.roll p) (whole s) (whole over) (λ l.
         up_unless s.core.depth (checks₁ l) (need_halves s.core.depth (K.halve l.share) (halved s l)) (need_halves (s.core.depth + 1) (K.halve l.share) (halved over l))
         (up_halves s.core.depth (K.halve l.share) (halved s l) (halved over l) (λ kept lent.
-        up_unless s.core.depth checks₂ (out s l kept lent) (out over l kept lent) (grown (number (s.core.issued + 1)) (lent_out s l h d kept lent) (lent_out over l h d kept lent) refl refl)))))
+        up_unless s.core.depth checks₂ (out s l kept lent) (out over l kept lent) (grown (number (s.core.issued + 1)) (after_delegate s l h d kept lent) (after_delegate over l h d kept lent) refl refl)))))
       where
         checks₁ : Lease S → List (Bool × ℕ)
         checks₁ l = (not (within_range h), 2) ∷ (bad_due_day s l d, 7) ∷ []
@@ -99,7 +99,7 @@ module _ {S : Type 0} where
         checks₂ = (numbers_out s, 4) ∷ (rows_full s, 5) ∷ []
 
         out : State S → Lease S → S → S → Outcome S
-        out x l kept lent = grants (number (x.core.issued + 1)) (lent_out x l h d kept lent)
+        out x l kept lent = grants (number (x.core.issued + 1)) (after_delegate x l h d kept lent)
 
         halved : State S → Lease S → S → S → Outcome S
         halved x l kept lent = unless x.core.depth checks₂ (out x l kept lent)
@@ -108,23 +108,23 @@ module _ {S : Type 0} where
         whole x l = unless x.core.depth (checks₁ l) (need_halves x.core.depth (K.halve l.share) (halved x l))
 
     up_yield : (n : ℕ) → Up (perform K s (yield n)) (perform K over (yield n))
-    up_yield n = up_live s.core.depth (find s.core.roll n) (out s) (out over) (λ l. up_unless s.core.depth checks (grants done (given_back K s l)) (grants done (given_back K over l)) (grown done (given_back K s l) (given_back K over l) refl refl))
+    up_yield n = up_live s.core.depth (find s.core.roll n) (out s) (out over) (λ l. up_unless s.core.depth checks (grants done (after_yield K s l)) (grants done (after_yield K over l)) (grown done (after_yield K s l) (after_yield K over l) refl refl))
       where
         checks : List (Bool × ℕ)
         checks = (lends s.core.roll n, 9) ∷ []
 
         out : State S → Lease S → Outcome S
-        out x l = unless x.core.depth checks (grants done (given_back K x l))
+        out x l = unless x.core.depth checks (grants done (after_yield K x l))
 
     up_merge : (a b : ℕ) → Up (perform K s (merge a b)) (perform K over (merge a b))
     up_merge a b = up_live s.core.depth (find s.core.roll a) (first s) (first over) (λ x. up_live s.core.depth (find s.core.roll b) (second s x) (second over x) (λ y.
-        up_unless s.core.depth (checks x y) (grants done (merged_into K s x y)) (grants done (merged_into K over x y)) (grown done (merged_into K s x y) (merged_into K over x y) refl refl)))
+        up_unless s.core.depth (checks x y) (grants done (after_merge K s x y)) (grants done (after_merge K over x y)) (grown done (after_merge K s x y) (after_merge K over x y) refl refl)))
       where
         checks : Lease S → Lease S → List (Bool × ℕ)
         checks x y = (leb b a, 10) ∷ (unlike x y, 11) ∷ []
 
         second : State S → Lease S → Lease S → Outcome S
-        second z x y = unless z.core.depth (checks x y) (grants done (merged_into K z x y))
+        second z x y = unless z.core.depth (checks x y) (grants done (after_merge K z x y))
 
         first : State S → Lease S → Outcome S
         first z x = need_live z.core.depth (find s.core.roll b) (second z x)

@@ -8,20 +8,20 @@ use Rattle.lending.specs.Outcome.{Answer, Outcome}
 use Rattle.lending.specs.Outcome.Outcome.{refuses, tells, grants}
 use Rattle.lending.specs.Perform.{perform, Ends, Does}
 use Rattle.lending.specs.History.{Moment, Leads, EachCameTo}
-use Rattle.lending.specs.Play.{play, answer_of, state_after, PlaysAreHistories}
+use Rattle.lending.specs.Play.{play, outcome_answer, state_after, PlaysAreHistories}
 
 pub plays_are_histories_lem : {S : Type 0} (K : Kind S) → PlaysAreHistories K
 plays_are_histories_lem K layers s [] = refl
 plays_are_histories_lem {S} K layers s (c ∷ cs) = (plays_are_histories_lem K layers s cs, ends (perform K (play K layers s cs).1 c))
   where
-    ends : (o : Outcome S) → Ends o (play K layers s cs).1 (answer_of o) (state_after layers o (play K layers s cs).1)
+    ends : (o : Outcome S) → Ends o (play K layers s cs).1 (outcome_answer o) (state_after layers o (play K layers s cs).1)
     ends (refuses r) = (refl, refl)
     ends (tells a) = (refl, refl)
     ends (grants a u) = (refl, refl)
 
 module _ {S : Type 0} (layers : Layers S) where
   -- a call that was made, and as it is worked out
-  pub worked_call : (o : Outcome S) (s u : State S) (a : Answer S) → Follow layers u → Ends o s a u → (a ≡ answer_of o) × (u ≡ state_after layers o s)
+  pub worked_call : (o : Outcome S) (s u : State S) (a : Answer S) → Follow layers u → Ends o s a u → (a ≡ outcome_answer o) × (u ≡ state_after layers o s)
   worked_call (refuses r) s u a q e = e
   worked_call (tells x) s u a q e = e
   worked_call (grants x v) s u a q e = (e.0, ap₂ (λ (c : Core S) (o : _). record { core = c; objections = o }) e.1 (q ∙ ap (λ (c : Core S). objections layers c.roll c.today) e.1))
@@ -35,5 +35,5 @@ module _ {S : Type 0} (layers : Layers S) where
       let before = worked_list K s ms m.before leads.0 each.1 each.0 in
       let at : m.before ≡ p.1 = ap (λ (x : List (Moment S) × State S). x.1) before in
       let known = worked_call (perform K p.1 m.call) p.1 t m.answer f (subst (λ (x : State S). Does K x m.call m.answer t) at leads.1) in
-      let moment : m ≡ record { before = p.1; call = m.call; answer = answer_of (perform K p.1 m.call) } = ap₂ (λ (x : State S) (a : Answer S). record { before = x; call = m.call; answer = a }) at known.0 in
+      let moment : m ≡ record { before = p.1; call = m.call; answer = outcome_answer (perform K p.1 m.call) } = ap₂ (λ (x : State S) (a : Answer S). record { before = x; call = m.call; answer = a }) at known.0 in
       ap₂ (λ (xs : List (Moment S)) (x : State S). (xs, x)) (ap₂ (λ (y : Moment S) (ys : List (Moment S)). y ∷ ys) moment (ap (λ (x : List (Moment S) × State S). x.0) before)) known.1

@@ -2,17 +2,17 @@
 use Rattle.std.proofs.Common.{◌≡◌, ℕ, cond, eqb, List, [], ◌∷◌, sym, refl, ap, ◌∙◌}
 use Rattle.lending.specs.declared.refusal.Reason.{Reason}
 use Rattle.lending.specs.declared.refusal.Reason.TheVariants.{ResourceOutOfRange, HolderOutOfRange, ResourceIsOpen, NumbersUsedUp, NoRowFree, NotLive, DueDay, DoesNotHalve, LeaseUnderIt, WrongOrder, NotAlike, SameHolder, DayOutOfRange, LeaseFallsDue, NoSuchPosition, OverQuota, OverTerm, ChainTooLong}
-use Rattle.lending.specs.Told.{number_of, NumbersTellReasonsApart}
+use Rattle.lending.specs.Answers.{reason_number, NumbersTellReasonsApart}
 
 -- the first of some reasons that has the number
 abbrev among : List Reason → ℕ → Reason
 among [] n = ResourceOutOfRange
-among (r ∷ rs) n = cond (eqb (number_of r) n) r (among rs n)
+among (r ∷ rs) n = cond (eqb (reason_number r) n) r (among rs n)
 
 abbrev of_number : ℕ → Reason
 of_number = among (ResourceOutOfRange ∷ HolderOutOfRange ∷ ResourceIsOpen ∷ NumbersUsedUp ∷ NoRowFree ∷ NotLive ∷ DueDay ∷ DoesNotHalve ∷ LeaseUnderIt ∷ WrongOrder ∷ NotAlike ∷ SameHolder ∷ DayOutOfRange ∷ LeaseFallsDue ∷ NoSuchPosition ∷ OverQuota ∷ OverTerm ∷ ChainTooLong ∷ [])
 
-back : (r : Reason) → of_number (number_of r) ≡ r
+back : (r : Reason) → of_number (reason_number r) ≡ r
 back ResourceOutOfRange = refl
 back HolderOutOfRange = refl
 back ResourceIsOpen = refl

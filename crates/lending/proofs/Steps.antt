@@ -11,7 +11,7 @@ use Rattle.lending.specs.Office.{Refusal, State, issue, with_roll, with_today}
 use Rattle.lending.specs.Outcome.{Call, Answer, Outcome, refused_at, unless, unless_objected, need_live, need_halves, tell_at, and_then, answering}
 use Rattle.lending.specs.Roll.{find, live, change, close, lends, is_open, with_share, with_holder, plus, family}
 use Rattle.lending.specs.Above.{yields, downward, recall_all}
-use Rattle.lending.specs.Calls.{due_by, do_yield, do_set_day, first_lease, bad_due_day, unlike, lent_out, given_back, merged_into, numbers_out, rows_full, bad_day}
+use Rattle.lending.specs.Calls.{due_by, do_yield, do_set_day, first_lease, bad_due_day, unlike, after_delegate, after_yield, after_merge, numbers_out, rows_full, bad_day}
 use Rattle.lending.specs.Perform.{perform}
 use Rattle.lending.specs.Limits.{within_range}
 use Rattle.lending.specs.Office.Request.{opening, delegating, assigning}
@@ -103,7 +103,7 @@ module _ {S : Type 0} (K : Kind S) (L : Laws K) where
       checks = (lends s.core.roll n, 9) ∷ []
 
       out : Lease S → Outcome S
-      out l = grants done (given_back K s l)
+      out l = grants done (after_yield K s l)
 
       end : (l : Lease S) → find s.core.roll n ≡ Some l → lends s.core.roll n ≡ false → P (out l)
       end l found e =
@@ -200,7 +200,7 @@ module _ {S : Type 0} (K : Kind S) (L : Laws K) where
         checks₂ = (numbers_out s, 4) ∷ (rows_full s, 5) ∷ []
 
         out₃ : Lease S → S → S → Outcome S
-        out₃ l kept lent = grants (number (s.core.issued + 1)) (lent_out s l h d kept lent)
+        out₃ l kept lent = grants (number (s.core.issued + 1)) (after_delegate s l h d kept lent)
 
         out₂ : Lease S → S → S → Outcome S
         out₂ l kept lent = unless s.core.depth checks₂ (out₃ l kept lent)
@@ -241,7 +241,7 @@ module _ {S : Type 0} (K : Kind S) (L : Laws K) where
         checks x y = (leb b a, 10) ∷ (unlike x y, 11) ∷ []
 
         out₃ : Lease S → Lease S → Outcome S
-        out₃ x y = grants done (merged_into K s x y)
+        out₃ x y = grants done (after_merge K s x y)
 
         out₂ : Lease S → Lease S → Outcome S
         out₂ x y = unless s.core.depth (checks x y) (out₃ x y)

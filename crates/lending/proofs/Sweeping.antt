@@ -10,7 +10,7 @@ use Rattle.lending.specs.Office.{Core, State, with_roll, with_today}
 use Rattle.lending.specs.Outcome.{Outcome, refused_at, unless, need_live, and_then, answering}
 use Rattle.lending.specs.Roll.{find, change, close, lends, family, with_share}
 use Rattle.lending.specs.Above.{yields, downward}
-use Rattle.lending.specs.Calls.{do_yield, do_set_day, given_back, due_by, bad_day}
+use Rattle.lending.specs.Calls.{do_yield, do_set_day, after_yield, due_by, bad_day}
 use Rattle.lending.specs.Limits.{last_day}
 use Rattle.lending.specs.Perform.{perform}
 use Rattle.lending.specs.Outcome.Call.{day}
@@ -166,26 +166,26 @@ module _ {S : Type 0} (K : Kind S) (P : List (Lease S) → ℕ → Type 0) (W : 
     none_b : lends s.core.roll n ≡ false
     none_b = some_is_none (λ x. eqb x.lender n) s.core.roll (λ x m e. none x m (eqb-true x.lender n e ∙ sym is))
 
-    granted : do_yield K s n ≡ grants done (given_back K s l)
-    granted = ap (λ (o : Option (Lease S)). need_live s.core.depth o (λ y. unless s.core.depth ((lends s.core.roll n, 9) ∷ []) (grants done (given_back K s y)))) (ap (find s.core.roll) (sym is) ∙ in_find 0 s.core.roll (W.rising s.core.roll s.core.issued H.has) l ml)
-        ∙ cond-false (lends s.core.roll n) (refuses (refused_at s.core.depth 9)) (grants done (given_back K s l)) none_b
+    granted : do_yield K s n ≡ grants done (after_yield K s l)
+    granted = ap (λ (o : Option (Lease S)). need_live s.core.depth o (λ y. unless s.core.depth ((lends s.core.roll n, 9) ∷ []) (grants done (after_yield K s y)))) (ap (find s.core.roll) (sym is) ∙ in_find 0 s.core.roll (W.rising s.core.roll s.core.issued H.has) l ml)
+        ∙ cond-false (lends s.core.roll n) (refuses (refused_at s.core.depth 9)) (grants done (after_yield K s l)) none_b
 
-    next : yields K s (n ∷ ns) ≡ yields K (given_back K s l) ns
+    next : yields K s (n ∷ ns) ≡ yields K (after_yield K s l) ns
     next = ap (λ (o : Outcome S). and_then o (λ t. yields K t ns)) granted
 
-    shape : map (bare K) (given_back K s l).core.roll ≡ close n (map (bare K) s.core.roll)
+    shape : map (bare K) (after_yield K s l).core.roll ≡ close n (map (bare K) s.core.roll)
     shape = bare_change K l.lender l.share (close l.number s.core.roll) ∙ bare_close K l.number s.core.roll ∙ ap (λ (k : ℕ). close k (map (bare K) s.core.roll)) is
 
-    src : (x : Lease S) → Memᴰ x (given_back K s l).core.roll → (y : Lease S) × Memᴰ y s.core.roll × (bare K x ≡ bare K y) × (y.number ≡ n → ⊥)
+    src : (x : Lease S) → Memᴰ x (after_yield K s l).core.roll → (y : Lease S) × Memᴰ y s.core.roll × (bare K x ≡ bare K y) × (y.number ≡ n → ⊥)
     src x m =
         let a = mem_map (bare K) (close n s.core.roll) (bare K x) (subst (λ (r : List (Lease S)). Memᴰ (bare K x) r) (shape ∙ sym (bare_close K n s.core.roll)) (map_mem (bare K) m)) in
         let c = mem_close s.core.roll n a.0 a.1 in
         (a.0, c.0, a.2, c.1)
 
-    target : (y : Lease S) → Memᴰ y s.core.roll → (y.number ≡ n → ⊥) → (x : Lease S) × Memᴰ x (given_back K s l).core.roll × (bare K y ≡ bare K x)
-    target y m h = mem_map (bare K) (given_back K s l).core.roll (bare K y) (subst (λ (r : List (Lease S)). Memᴰ (bare K y) r) (bare_close K n s.core.roll ∙ sym shape) (map_mem (bare K) (close_mem s.core.roll n y m h)))
+    target : (y : Lease S) → Memᴰ y s.core.roll → (y.number ≡ n → ⊥) → (x : Lease S) × Memᴰ x (after_yield K s l).core.roll × (bare K y ≡ bare K x)
+    target y m h = mem_map (bare K) (after_yield K s l).core.roll (bare K y) (subst (λ (r : List (Lease S)). Memᴰ (bare K y) r) (bare_close K n s.core.roll ∙ sym shape) (map_mem (bare K) (close_mem s.core.roll n y m h)))
 
-    left : Left (given_back K s l) ns
+    left : Left (after_yield K s l) ns
     left = record {
       has = W.kept s.core.roll s.core.issued H.has l ml none;
       live = λ m k. let h = H.live m (Memᴰ.tail k) in
@@ -214,13 +214,13 @@ module _ {S : Type 0} (K : Kind S) (P : List (Lease S) → ℕ → Type 0) (W : 
     where
       go : Has s.core.roll n → ((t : State S) → Left t ns → Granted t ns) → Granted s (n ∷ ns)
       go h below =
-          let g = below (given_back K s h.0) (left s n ns f H h.0 h.1 h.2) in
+          let g = below (after_yield K s h.0) (left s n ns f H h.0 h.1 h.2) in
           record {
             after = g.after;
             is = next s n ns f H h.0 h.1 h.2 ∙ g.is;
             has = g.has;
             core = g.core;
-            shape = g.shape ∙ bare_without K ns (given_back K s h.0).core.roll ∙ ap (without ns) (shape s n ns f H h.0 h.1 h.2 ∙ sym (bare_close K n s.core.roll)) ∙ sym (bare_without K ns (close n s.core.roll));
+            shape = g.shape ∙ bare_without K ns (after_yield K s h.0).core.roll ∙ ap (without ns) (shape s n ns f H h.0 h.1 h.2 ∙ sym (bare_close K n s.core.roll)) ∙ sym (bare_without K ns (close n s.core.roll));
           }
 
   module _ (s : State S) (ns : List ℕ) (g : Granted s ns) where

@@ -40,8 +40,8 @@ module _ {S : Type 0} where
   bad_due_day s p due = nat_le due s.core.today || (nat_lt p.due due || nat_lt last_day due)
 
   -- the lender p keeps the one half, and the next number gets the other
-  abbrev pub lent_out : State S → Lease S → ℕ → ℕ → S → S → State S
-  lent_out s p holder due kept lent =
+  abbrev pub after_delegate : State S → Lease S → ℕ → ℕ → S → S → State S
+  after_delegate s p holder due kept lent =
       issue (record { number = s.core.issued + 1; resource = p.resource; holder = holder; lender = p.number; due = due; share = lent })
       (with_roll (change p.number (with_share kept) s.core.roll) s)
 
@@ -52,21 +52,21 @@ module _ {S : Type 0} where
       unless s.core.depth ((not (within_range holder), 2) ∷ (bad_due_day s p due, 7) ∷ [])
       (need_halves s.core.depth (K.halve p.share) (λ kept lent.
       unless s.core.depth ((numbers_out s, 4) ∷ (rows_full s, 5) ∷ [])
-      (grants (number (s.core.issued + 1)) (lent_out s p holder due kept lent))))))
+      (grants (number (s.core.issued + 1)) (after_delegate s p holder due kept lent))))))
 
   -- the lease is closed, and its share joins its lender's; a first lease goes back to the house
-  abbrev pub given_back : Kind S → State S → Lease S → State S
-  given_back K s l = with_roll (change l.lender (λ p. with_share (plus K p.share l.share) p) (close l.number s.core.roll)) s
+  abbrev pub after_yield : Kind S → State S → Lease S → State S
+  after_yield K s l = with_roll (change l.lender (λ p. with_share (plus K p.share l.share) p) (close l.number s.core.roll)) s
 
   abbrev pub do_yield : Kind S → State S → ℕ → Outcome S
   do_yield K s n =
       need_live s.core.depth (find s.core.roll n) (λ l.
       unless s.core.depth ((lends s.core.roll n, 9) ∷ [])
-      (grants done (given_back K s l)))
+      (grants done (after_yield K s l)))
 
   -- b is closed, a gets both shares and lends what b lent
-  abbrev pub merged_into : Kind S → State S → Lease S → Lease S → State S
-  merged_into K s a b = with_roll (relend a.number b.number (change a.number (with_share (plus K a.share b.share)) (close b.number s.core.roll))) s
+  abbrev pub after_merge : Kind S → State S → Lease S → Lease S → State S
+  after_merge K s a b = with_roll (relend a.number b.number (change a.number (with_share (plus K a.share b.share)) (close b.number s.core.roll))) s
 
   -- the lenders differ or are the house, or the holders or the due days differ
   abbrev pub unlike : Lease S → Lease S → Bool
@@ -77,7 +77,7 @@ module _ {S : Type 0} where
       need_live s.core.depth (find s.core.roll a) (λ x.
       need_live s.core.depth (find s.core.roll b) (λ y.
       unless s.core.depth ((nat_le b a, 10) ∷ (unlike x y, 11) ∷ [])
-      (grants done (merged_into K s x y))))
+      (grants done (after_merge K s x y))))
 
   abbrev pub do_assign : State S → ℕ → ℕ → Outcome S
   do_assign s n holder =

@@ -12,6 +12,6 @@ pub mod Exact
 pub mod Orderly
 pub mod Layers
 pub mod Play
-pub mod Told
+pub mod Answers
 pub mod Idle
 pub mod Choice

@@ -10,10 +10,10 @@ use Rattle.lending.specs.History.{Moment, Leads}
 use Rattle.lending.specs.Layers.{Layers, objections}
 
 module _ {S : Type 0} where
-  abbrev pub answer_of : Outcome S → Answer S
-  answer_of (refuses r) = refused r
-  answer_of (tells a) = a
-  answer_of (grants a t) = a
+  abbrev pub outcome_answer : Outcome S → Answer S
+  outcome_answer (refuses r) = refused r
+  outcome_answer (tells a) = a
+  outcome_answer (grants a t) = a
 
   -- what an office with these layers stands for after a call that ends so
   abbrev pub state_after : Layers S → Outcome S → State S → State S
@@ -27,7 +27,7 @@ module _ {S : Type 0} where
   play K layers s (c ∷ cs) = on (play K layers s cs)
     where
       on : List (Moment S) × State S → List (Moment S) × State S
-      on p = let o = perform K p.1 c in ((record { before = p.1; call = c; answer = answer_of o } ∷ p.0), state_after layers o p.1)
+      on p = let o = perform K p.1 c in ((record { before = p.1; call = c; answer = outcome_answer o } ∷ p.0), state_after layers o p.1)
 
   -- What is played is a list of calls, each made to the state that the one before it left.
   abbrev pub PlaysAreHistories : Kind S → Type 0

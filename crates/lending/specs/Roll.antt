@@ -53,8 +53,8 @@ module _ {S : Type 0} where
   lends roll n = list_any (λ l. nat_eq l.lender n) roll
 
   -- how many live leases a holder has
-  abbrev pub held : List (Lease S) → ℕ → ℕ
-  held roll holder = length (filter (λ l. nat_eq l.holder holder) roll)
+  abbrev pub count_held : List (Lease S) → ℕ → ℕ
+  count_held roll holder = length (filter (λ l. nat_eq l.holder holder) roll)
 
   -- the shares that a holder has of a resource
   abbrev pub shares_of : List (Lease S) → ℕ → ℕ → List S

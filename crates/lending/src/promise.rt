@@ -4,7 +4,7 @@ ghost use Rattle.lending.specs.Effects.{EveryRecallTakesBack, EveryHandInTakesBa
 ghost use Rattle.lending.specs.Exact.{CallsExact};
 ghost use Rattle.lending.specs.Layers.{LayerIsOffice};
 ghost use Rattle.lending.specs.Play.{PlaysAreHistories};
-ghost use Rattle.lending.specs.Told.{NumbersTellReasonsApart};
+ghost use Rattle.lending.specs.Answers.{NumbersTellReasonsApart};
 
 use shares::Share;
 

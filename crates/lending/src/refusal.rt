@@ -1,5 +1,5 @@
 ghost use Rattle.std.specs.Prelude.{◌≡◌};
-ghost use Rattle.lending.specs.Told.{number_of, here, raised};
+ghost use Rattle.lending.specs.Answers.{reason_number, refused_here, raised_refusal};
 
 use thiserror::Error;
 
@@ -47,7 +47,7 @@ pub enum Reason {
 impl Reason {
     // Its number.
     pub fn number(self) -> u8
-        ensures { result ≡ number_of self }
+        ensures { result ≡ reason_number self }
     {
         self as u8
     }
@@ -62,7 +62,7 @@ pub struct Refusal {
 
 // A refusal of the office called.
 impl From<Reason> for Refusal {
-    ghost from_gives = { λ reason refusal. refusal ≡ here reason };
+    ghost from_gives = { λ reason refusal. refusal ≡ refused_here reason };
 
     fn from(reason: Reason) -> Refusal {
         Refusal { reason, level: 0 }
@@ -72,7 +72,7 @@ impl From<Reason> for Refusal {
 impl Refusal {
     // The refusal as the next office passes it up. Nobody piles more than 255 layers, so no level is above 255.
     pub fn raised(self) -> Refusal
-        ensures { result ≡ raised self }
+        ensures { result ≡ raised_refusal self }
     {
         Refusal {
             reason: self.reason,

@@ -10,7 +10,7 @@ use Rattle.lending.specs.Office.{State}
 use Rattle.lending.specs.Outcome.{tell_at}
 use Rattle.lending.specs.Outcome.Call.{ask_lease_at}
 use Rattle.lending.specs.Perform.{Does, Ends}
-use Rattle.lending.specs.Told.{told_lease}
+use Rattle.lending.specs.Answers.{lease_or_refused}
 
 module _ {A : Type 0} where
   item_at : (xs : List A) (i : ℕ) (x : A) → get_elem? xs i ≡ maybe.some x → slice_get xs i ≡ Some x
@@ -24,10 +24,10 @@ module _ {A : Type 0} where
   none_at (y ∷ ys) (suc i) e = none_at ys i e
 
 module _ {S : Type 0} (K : Kind S) (s t : State S) where
-  pub lease_there : (i : ℕ) (r : Result (Lease S) Refusal) → Does K s (ask_lease_at i) (told_lease r) t → result_ok r ≡ slice_get s.core.roll i
+  pub lease_there : (i : ℕ) (r : Result (Lease S) Refusal) → Does K s (ask_lease_at i) (lease_or_refused r) t → result_ok r ≡ slice_get s.core.roll i
   lease_there i r d = go (get_elem? s.core.roll i) refl r d
     where
-      go : (o : maybe.Option (Lease S)) → get_elem? s.core.roll i ≡ o → (r : Result (Lease S) Refusal) → Ends (tell_at s.core.depth o) s (told_lease r) t → result_ok r ≡ slice_get s.core.roll i
+      go : (o : maybe.Option (Lease S)) → get_elem? s.core.roll i ≡ o → (r : Result (Lease S) Refusal) → Ends (tell_at s.core.depth o) s (lease_or_refused r) t → result_ok r ≡ slice_get s.core.roll i
       go maybe.none f (Ok y) d = let g = d.0 in cc
       go maybe.none f (Err h) d = sym (none_at s.core.roll i f)
       go (maybe.some z) f (Ok y) d = let g = d.0 in let k : get_elem? s.core.roll i ≡ maybe.some y = cc in sym (item_at s.core.roll i y k)

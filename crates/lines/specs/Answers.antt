@@ -6,19 +6,19 @@ use Rattle.lines.specs.declared.reason.LineReason.{LineReason}
 use Rattle.lines.specs.declared.reason.LineReason.TheVariants.{NoSuchPosition, LineTooLong}
 
 -- what each reason tells: its number, and level 0, since a line call stands over an office
-abbrev pub meant : LineReason → Refusal
-meant NoSuchPosition = record { number = 15; level = 0 }
-meant LineTooLong = record { number = 31; level = 0 }
+abbrev pub line_refusal : LineReason → Refusal
+line_refusal NoSuchPosition = record { number = 15; level = 0 }
+line_refusal LineTooLong = record { number = 31; level = 0 }
 
 -- what the answer of a line call tells
-abbrev pub told_line : Result ℕ LineReason → Result ℕ Refusal
-told_line (Ok written) = Ok written
-told_line (Err reason) = Err (meant reason)
+abbrev pub line_written : Result ℕ LineReason → Result ℕ Refusal
+line_written (Ok written) = Ok written
+line_written (Err reason) = Err (line_refusal reason)
 
 -- 15 at level 0 where there is no line to be written, else 31 at level 0 where it is longer than the space, else its length
-abbrev pub answer_of : Option (List ℕ) → List ℕ → Result ℕ Refusal
-answer_of None space = Err (record { number = 15; level = 0 })
-answer_of (Some line) space =
+abbrev pub line_answer : Option (List ℕ) → List ℕ → Result ℕ Refusal
+line_answer None space = Err (record { number = 15; level = 0 })
+line_answer (Some line) space =
     if nat_le (length line) (length space) then Ok (length line) else Err (record { number = 31; level = 0 })
 
 -- the space with the line at its front, or as it was

@@ -5,7 +5,7 @@ pub(crate) mod totals;
 
 ghost use Rattle.std.specs.Prelude.{◌≡◌, ◌+◌, ◌<◌, ◌≤◌, ◌++◌, length, codes, Some};
 ghost use Rattle.arrayvec.specs.ArrayVec.{array_vec_len};
-ghost use Rattle.lines.specs.Answers.{told_line, answer_of, space_after};
+ghost use Rattle.lines.specs.Answers.{line_written, line_answer, space_after};
 
 use crate::reason::LineReason;
 use arrayvec::ArrayVec;
@@ -46,7 +46,7 @@ fn write_number<I: Integer>(line: &mut Line, n: I)
 
 // Copies a line to the front of a space, if it is long enough.
 fn put(line: &Line, space: &mut [u8]) -> Result<usize, LineReason>
-    ensures answers { told_line result ≡ answer_of (Some line.now.items) space.old }
+    ensures answers { line_written result ≡ line_answer (Some line.now.items) space.old }
     ensures leaves { space.new ≡ space_after (Some line.now.items) space.old }
 {
     let length = line.len();

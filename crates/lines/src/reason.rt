@@ -1,5 +1,5 @@
 ghost use Rattle.std.specs.Prelude.{◌≡◌};
-ghost use Rattle.lines.specs.Answers.{meant};
+ghost use Rattle.lines.specs.Answers.{line_refusal};
 
 use thiserror::Error;
 
@@ -18,14 +18,14 @@ pub enum LineReason {
 impl LineReason {
     // Its number.
     pub fn number(self) -> u8
-        ensures { result ≡ (meant self).number }
+        ensures { result ≡ (line_refusal self).number }
     {
         self as u8
     }
 
     // Its level.
     pub fn level(self) -> u8
-        ensures { result ≡ (meant self).level }
+        ensures { result ≡ (line_refusal self).level }
     {
         LEVEL
     }

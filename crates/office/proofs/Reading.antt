@@ -10,7 +10,7 @@ use Rattle.lending.specs.Office.{State}
 use Rattle.lending.specs.Outcome.{tell_at}
 use Rattle.lending.specs.Outcome.Call.{ask_lease_at}
 use Rattle.lending.specs.Perform.{Does, Ends}
-use Rattle.lending.specs.Told.{told_lease}
+use Rattle.lending.specs.Answers.{lease_or_refused}
 
 module _ {A : Type 0} where
   none_left : (xs : List A) (i : ℕ) → get_elem? xs i ≡ maybe.none → drop i xs ≡ []
@@ -33,10 +33,10 @@ module _ {A : Type 0} where
   first_within i xs (Some x) e h = let n = ap length e in omega (arith, length-drop i xs)
 
 module _ {S : Type 0} (K : Kind S) (s t : State S) where
-  pub first_lease : (i : ℕ) (r : Result (Lease S) Refusal) → Does K s (ask_lease_at i) (told_lease r) t → First i s.core.roll (result_ok r)
+  pub first_lease : (i : ℕ) (r : Result (Lease S) Refusal) → Does K s (ask_lease_at i) (lease_or_refused r) t → First i s.core.roll (result_ok r)
   first_lease i r d = go (get_elem? s.core.roll i) refl r d
     where
-      go : (o : maybe.Option (Lease S)) → get_elem? s.core.roll i ≡ o → (r : Result (Lease S) Refusal) → Ends (tell_at s.core.depth o) s (told_lease r) t → First i s.core.roll (result_ok r)
+      go : (o : maybe.Option (Lease S)) → get_elem? s.core.roll i ≡ o → (r : Result (Lease S) Refusal) → Ends (tell_at s.core.depth o) s (lease_or_refused r) t → First i s.core.roll (result_ok r)
       go maybe.none f (Ok y) d = let g = d.0 in cc
       go maybe.none f (Err h) d = none_left s.core.roll i f
       go (maybe.some z) f (Ok y) d = let g = d.0 in let k : get_elem? s.core.roll i ≡ maybe.some y = cc in drop_suc s.core.roll i y k ∙ ap (λ j. y ∷ drop j s.core.roll) (sym (add-one i))

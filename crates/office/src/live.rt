@@ -1,7 +1,7 @@
 ghost use Rattle.std.specs.Prelude.{◌≡◌, ◌+◌, ◌<◌, [], ◌∷◌, drop, MatchOption, IsSome};
 ghost use Rattle.std.specs.Iterator.{YieldsFirst, item_count};
 ghost use Rattle.lending.specs.Limits.{most_rows};
-ghost use Rattle.office.specs.Left.{left};
+ghost use Rattle.office.specs.ToCome.{leases_to_come};
 
 use crate::office::Office;
 use lending::Lease;
@@ -15,7 +15,7 @@ pub struct LiveLeases<'a, O> {
 
 // The live leases of an office, in the order of the roll.
 pub fn leases<O: Office>(office: &O) -> LiveLeases<'_, O>
-    ensures { left O.Office.meaning result ≡ (O.Office.meaning office.now).core.roll }
+    ensures { leases_to_come O.Office.meaning result ≡ (O.Office.meaning office.now).core.roll }
 {
     LiveLeases {
         office,
@@ -35,9 +35,9 @@ fn first_from<O: Office>(office: &O, position: usize) -> Option<Lease<O::Kind>>
 impl<'a, O: Office> Iterator for LiveLeases<'a, O> {
     type Item = Lease<O::Kind>;
 
-    ghost next_gives = { YieldsFirst (left O.Office.meaning) };
+    ghost next_gives = { YieldsFirst (leases_to_come O.Office.meaning) };
 
-    ghost remaining = { item_count (left O.Office.meaning) };
+    ghost remaining = { item_count (leases_to_come O.Office.meaning) };
 
     fn next(&mut self) -> Option<Lease<O::Kind>> {
         let lease = first_from(self.office, self.position)?;

@@ -5,7 +5,7 @@ ghost use Rattle.lending.specs.Office.{State};
 ghost use Rattle.lending.specs.Outcome.Call.{open_resource, delegate, yield, merge, assign, new_day, ask_count, ask_issued, ask_today, ask_lease_at, ask_lease};
 ghost use Rattle.lending.specs.Outcome.Answer.{number};
 ghost use Rattle.lending.specs.Perform.{Does};
-ghost use Rattle.lending.specs.Told.{told, told_number, told_lease};
+ghost use Rattle.lending.specs.Answers.{done_or_refused, number_or_refused, lease_or_refused};
 ghost use Rattle.office.specs.Lawful.{Lawful, unused};
 
 use lending::{Lease, Refusal};
@@ -50,15 +50,15 @@ pub trait Office {
 
     // The live lease at a position of the roll, from 0.
     fn lease_at(&self, position: usize) -> Result<Lease<Self::Kind>, Refusal>
-        ensures { Does Self.Kind.Share.kind (meaning self.now) (ask_lease_at position) (told_lease result) (meaning self.now) };
+        ensures { Does Self.Kind.Share.kind (meaning self.now) (ask_lease_at position) (lease_or_refused result) (meaning self.now) };
 
     // The live lease with a number.
     fn lease(&self, lease: u16) -> Result<Lease<Self::Kind>, Refusal>
-        ensures { Does Self.Kind.Share.kind (meaning self.now) (ask_lease lease) (told_lease result) (meaning self.now) };
+        ensures { Does Self.Kind.Share.kind (meaning self.now) (ask_lease lease) (lease_or_refused result) (meaning self.now) };
 
     // Opens a resource: the holder gets its first lease, with the whole. Answers its number.
     fn open(&mut self, resource: u16, holder: u16) -> Result<u16, Refusal>
-        ensures does { Does Self.Kind.Share.kind (meaning self.old) (open_resource resource holder) (told_number result) (meaning self.new) }
+        ensures does { Does Self.Kind.Share.kind (meaning self.old) (open_resource resource holder) (number_or_refused result) (meaning self.new) }
         ensures same { is_ok result ≡ false → self.new ≡ self.old }
         ensures unused { unused (rows self.new) ≡ unused (rows self.old) }
         ensures layers { layers self.new ≡ layers self.old }
@@ -66,7 +66,7 @@ pub trait Office {
 
     // Lends half of a lease's share to a holder, until a day. Answers the new lease's number.
     fn delegate(&mut self, lender: u16, holder: u16, due: u16) -> Result<u16, Refusal>
-        ensures does { Does Self.Kind.Share.kind (meaning self.old) (delegate lender holder due) (told_number result) (meaning self.new) }
+        ensures does { Does Self.Kind.Share.kind (meaning self.old) (delegate lender holder due) (number_or_refused result) (meaning self.new) }
         ensures same { is_ok result ≡ false → self.new ≡ self.old }
         ensures unused { unused (rows self.new) ≡ unused (rows self.old) }
         ensures layers { layers self.new ≡ layers self.old }
@@ -74,7 +74,7 @@ pub trait Office {
 
     // Closes a lease, and joins its share to its lender's.
     fn yield_lease(&mut self, lease: u16) -> Result<(), Refusal>
-        ensures does { Does Self.Kind.Share.kind (meaning self.old) (yield lease) (told result) (meaning self.new) }
+        ensures does { Does Self.Kind.Share.kind (meaning self.old) (yield lease) (done_or_refused result) (meaning self.new) }
         ensures same { is_ok result ≡ false → self.new ≡ self.old }
         ensures unused { unused (rows self.new) ≡ unused (rows self.old) }
         ensures layers { layers self.new ≡ layers self.old }
@@ -82,7 +82,7 @@ pub trait Office {
 
     // Closes lease b; lease a gets both shares, and lends what b lent.
     fn merge(&mut self, a: u16, b: u16) -> Result<(), Refusal>
-        ensures does { Does Self.Kind.Share.kind (meaning self.old) (merge a b) (told result) (meaning self.new) }
+        ensures does { Does Self.Kind.Share.kind (meaning self.old) (merge a b) (done_or_refused result) (meaning self.new) }
         ensures same { is_ok result ≡ false → self.new ≡ self.old }
         ensures unused { unused (rows self.new) ≡ unused (rows self.old) }
         ensures layers { layers self.new ≡ layers self.old }
@@ -90,7 +90,7 @@ pub trait Office {
 
     // Changes the holder of a lease.
     fn assign(&mut self, lease: u16, holder: u16) -> Result<(), Refusal>
-        ensures does { Does Self.Kind.Share.kind (meaning self.old) (assign lease holder) (told result) (meaning self.new) }
+        ensures does { Does Self.Kind.Share.kind (meaning self.old) (assign lease holder) (done_or_refused result) (meaning self.new) }
         ensures same { is_ok result ≡ false → self.new ≡ self.old }
         ensures unused { unused (rows self.new) ≡ unused (rows self.old) }
         ensures layers { layers self.new ≡ layers self.old }
@@ -98,7 +98,7 @@ pub trait Office {
 
     // Changes today.
     fn set_day(&mut self, day: u16) -> Result<(), Refusal>
-        ensures does { Does Self.Kind.Share.kind (meaning self.old) (new_day day) (told result) (meaning self.new) }
+        ensures does { Does Self.Kind.Share.kind (meaning self.old) (new_day day) (done_or_refused result) (meaning self.new) }
         ensures same { is_ok result ≡ false → self.new ≡ self.old }
         ensures unused { unused (rows self.new) ≡ unused (rows self.old) }
         ensures layers { layers self.new ≡ layers self.old }

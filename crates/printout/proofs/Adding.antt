@@ -10,12 +10,12 @@ use Rattle.lending.specs.Office.{State, Refusal}
 use Rattle.lending.specs.Outcome.{Answer}
 use Rattle.lending.specs.Outcome.Answer.{number}
 use Rattle.lines.specs.declared.reason.LineReason.{LineReason}
-use Rattle.lines.specs.Answers.{told_line, answer_of, space_after}
+use Rattle.lines.specs.Answers.{line_written, line_answer, space_after}
 use Rattle.lines.specs.Lines.{line_at, lease_line, LinesAreShort}
 use Rattle.replay.specs.declared.fault.Fault.{Fault}
-use Rattle.replay.specs.Told.{told}
-use Rattle.printout.specs.Readable.{ReadableTold}
-use Rattle.printout.specs.Shown.{line_of, refusal_lines, shown_lease, lease_lines}
+use Rattle.replay.specs.Faults.{refused_event}
+use Rattle.printout.specs.Readable.{ReadableRefusal}
+use Rattle.printout.specs.Contents.{line_of_refusal, refusal_lines, lease_entry, lease_lines}
 
 module _ {A : Type 0} where
   -- what is at a position within a list
@@ -44,32 +44,32 @@ abbrev too_long : Result ℕ Refusal
 too_long = Err (record { number = 31; level = 0 })
 
 -- what is told as granted was granted
-granted : (r : Result ℕ LineReason) → IsOk (told_line r) → IsOk r
+granted : (r : Result ℕ LineReason) → IsOk (line_written r) → IsOk r
 granted (Ok n) o = refl
 granted (Err reason) o = o
 
 -- a line of at most 219 bytes fits a space of 219 bytes
-line_told : (line space : List ℕ) → length line ≤ 219 → length space ≡ 219 → answer_of (Some line) space ≡ Ok (length line)
+line_told : (line space : List ℕ) → length line ≤ 219 → length space ≡ 219 → line_answer (Some line) space ≡ Ok (length line)
 line_told line space few size =
     let test : nat_le (length line) (length space) ≡ true = le-leb (length line) (length space) (omega (arith, few, size)) in
     ap (λ (b : Bool). if b then Ok (length line) else too_long) test
 
-line_fits : (line space : List ℕ) → length line ≤ 219 → length space ≡ 219 → (r : Result ℕ LineReason) → told_line r ≡ answer_of (Some line) space → IsOk r
+line_fits : (line space : List ℕ) → length line ≤ 219 → length space ≡ 219 → (r : Result ℕ LineReason) → line_written r ≡ line_answer (Some line) space → IsOk r
 line_fits line space few size r e = granted r (subst IsOk (sym (e ∙ line_told line space few size)) refl)
 
 module _ {S : Type 0} (K : Kind S) (text : S → List ℕ) where
   -- the line of a live lease fits a space of 219 bytes
-  pub fits : (s : State S) (i : ℕ) → i < length s.core.roll → LinesAreShort K text s → (space : List ℕ) → length space ≡ 219 → (r : Result ℕ LineReason) → told_line r ≡ answer_of (line_at K text s.core.roll i) space → IsOk r
+  pub fits : (s : State S) (i : ℕ) → i < length s.core.roll → LinesAreShort K text s → (space : List ℕ) → length space ≡ 219 → (r : Result ℕ LineReason) → line_written r ≡ line_answer (line_at K text s.core.roll i) space → IsOk r
   fits s i l short space size r e =
       let x = at s.core.roll i l in
       let line = lease_line K text s.core.roll x.0 in
-      line_fits line space (short x.0 x.2) size r (e ∙ ap (λ (o : Option (Lease S)). answer_of (option_map (lease_line K text s.core.roll) o) space) x.1)
+      line_fits line space (short x.0 x.2) size r (e ∙ ap (λ (o : Option (Lease S)). line_answer (option_map (lease_line K text s.core.roll) o) space) x.1)
 
 -- what a line call left at the front of its space
-pub placed : (line space after : List ℕ) (r : Result ℕ LineReason) (n : ℕ) → length line ≤ 219 → length space ≡ 219 → told_line r ≡ answer_of (Some line) space → after ≡ space_after (Some line) space → r ≡ Ok n → take n after ≡ line
+pub placed : (line space after : List ℕ) (r : Result ℕ LineReason) (n : ℕ) → length line ≤ 219 → length space ≡ 219 → line_written r ≡ line_answer (Some line) space → after ≡ space_after (Some line) space → r ≡ Ok n → take n after ≡ line
 placed line space after r n few size a b c =
     let test : nat_le (length line) (length space) ≡ true = le-leb (length line) (length space) (omega (arith, few, size)) in
-    let d : ◌≡◌ {A = Result ℕ Refusal} (Ok n) (Ok (length line)) = sym (ap told_line c) ∙ a ∙ line_told line space few size in
+    let d : ◌≡◌ {A = Result ℕ Refusal} (Ok n) (Ok (length line)) = sym (ap line_written c) ∙ a ∙ line_told line space few size in
     let e : n ≡ length line = cc in
     let f : after ≡ line ++ drop (length line) space = b ∙ ap (λ (t : Bool). if t then line ++ drop (length line) space else space) test in
     ap₂ (λ (k : ℕ) (xs : List ℕ). take k xs) e f ∙ front line (drop (length line) space)
@@ -85,33 +85,33 @@ module _ {S : Type 0} (K : Kind S) (text : S → List ℕ) (roll : List (Lease S
 
   -- the lines from a position on
   abbrev pub lines_from : ℕ → List ℕ
-  lines_from i = lease_lines (map (shown_lease K text roll) (drop i roll))
+  lines_from i = lease_lines (map (lease_entry K text roll) (drop i roll))
 
   -- of which that there is the first
   pub first_line : (i : ℕ) → i < length roll → line_there i ++ lines_from (i + 1) ≡ lines_from i
   first_line i l =
       let x = drop_at roll i l in
-      ap (λ (o : Option (Lease S)). unwrap_or (option_map (lease_line K text roll) o) [] ++ lines_from (i + 1)) x.1 ∙ ap (λ (ls : List (Lease S)). lease_lines (map (shown_lease K text roll) ls)) (sym x.2)
+      ap (λ (o : Option (Lease S)). unwrap_or (option_map (lease_line K text roll) o) [] ++ lines_from (i + 1)) x.1 ∙ ap (λ (ls : List (Lease S)). lease_lines (map (lease_entry K text roll) ls)) (sym x.2)
 
   pub no_lines : (i : ℕ) → length roll ≤ i → lines_from i ≡ []
-  no_lines i l = ap (λ (ls : List (Lease S)). lease_lines (map (shown_lease K text roll) ls)) (drop_none roll i l)
+  no_lines i l = ap (λ (ls : List (Lease S)). lease_lines (map (lease_entry K text roll) ls)) (drop_none roll i l)
 
   -- what a call for that line left at the front of its space
-  pub placed_there : (i : ℕ) → i < length roll → ((l : Lease S) → Memᴰ l roll → length (lease_line K text roll l) ≤ 219) → (space after : List ℕ) (r : Result ℕ LineReason) (n : ℕ) → length space ≡ 219 → told_line r ≡ answer_of (line_at K text roll i) space → after ≡ space_after (line_at K text roll i) space → r ≡ Ok n → take n after ≡ line_there i
+  pub placed_there : (i : ℕ) → i < length roll → ((l : Lease S) → Memᴰ l roll → length (lease_line K text roll l) ≤ 219) → (space after : List ℕ) (r : Result ℕ LineReason) (n : ℕ) → length space ≡ 219 → line_written r ≡ line_answer (line_at K text roll i) space → after ≡ space_after (line_at K text roll i) space → r ≡ Ok n → take n after ≡ line_there i
   placed_there i l short space after r n size a b c =
       let x = at roll i l in
       let e = ap (option_map (lease_line K text roll)) x.1 in
-      placed (lease_line K text roll x.0) space after r n (short x.0 x.2) size (a ∙ ap (λ (o : Option (List ℕ)). answer_of o space) e) (b ∙ ap (λ (o : Option (List ℕ)). space_after o space) e) c
+      placed (lease_line K text roll x.0) space after r n (short x.0 x.2) size (a ∙ ap (λ (o : Option (List ℕ)). line_answer o space) e) (b ∙ ap (λ (o : Option (List ℕ)). space_after o space) e) c
       ∙ sym (ap (λ (o : Option (List ℕ)). unwrap_or o []) e)
 
 -- the line of a fault is the first of those to come
-pub first_refusal : (xs : List Fault) (i : ℕ) (d : Fault) → i < length xs → line_of (told (get_or xs i d)) ++ refusal_lines (map told (drop (i + 1) xs)) ≡ refusal_lines (map told (drop i xs))
+pub first_refusal : (xs : List Fault) (i : ℕ) (d : Fault) → i < length xs → line_of_refusal (refused_event (get_or xs i d)) ++ refusal_lines (map refused_event (drop (i + 1) xs)) ≡ refusal_lines (map refused_event (drop i xs))
 first_refusal [] i d l = absurd (omega arith)
 first_refusal (x ∷ xs) zero d l = refl
-first_refusal (x ∷ xs) (suc i) d l = let e : suc i + 1 ≡ suc (i + 1) = omega arith in ap (λ (j : ℕ). line_of (told (get_or xs i d)) ++ refusal_lines (map told (drop j (x ∷ xs)))) e ∙ first_refusal xs i d (le_of_suc-le-suc l)
+first_refusal (x ∷ xs) (suc i) d l = let e : suc i + 1 ≡ suc (i + 1) = omega arith in ap (λ (j : ℕ). line_of_refusal (refused_event (get_or xs i d)) ++ refusal_lines (map refused_event (drop j (x ∷ xs)))) e ∙ first_refusal xs i d (le_of_suc-le-suc l)
 
 -- one fault more can be read back
-pub one_readable : (xs : List Fault) (i : ℕ) (d : Fault) → i < length xs → AllByRecursion ReadableTold (map told (take i xs)) → ReadableTold (told (get_or xs i d)) → AllByRecursion ReadableTold (map told (take (i + 1) xs))
+pub one_readable : (xs : List Fault) (i : ℕ) (d : Fault) → i < length xs → AllByRecursion ReadableRefusal (map refused_event (take i xs)) → ReadableRefusal (refused_event (get_or xs i d)) → AllByRecursion ReadableRefusal (map refused_event (take (i + 1) xs))
 one_readable [] i d l p q = absurd (omega arith)
 one_readable (x ∷ xs) zero d l p q = (q, tt)
-one_readable (x ∷ xs) (suc i) d l p q = let e : suc i + 1 ≡ suc (i + 1) = omega arith in subst (λ (j : ℕ). AllByRecursion ReadableTold (map told (take j (x ∷ xs)))) (sym e) (p.0, one_readable xs i d (le_of_suc-le-suc l) p.1 q)
+one_readable (x ∷ xs) (suc i) d l p q = let e : suc i + 1 ≡ suc (i + 1) = omega arith in subst (λ (j : ℕ). AllByRecursion ReadableRefusal (map refused_event (take j (x ∷ xs)))) (sym e) (p.0, one_readable xs i d (le_of_suc-le-suc l) p.1 q)

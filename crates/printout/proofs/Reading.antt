@@ -10,14 +10,14 @@ use Rattle.lending.specs.declared.lease.Lease.{Lease}
 use Rattle.lending.specs.Limits.{within_range}
 use Rattle.lending.specs.Office.{State}
 use Rattle.office.specs.Lawful.{Lawful}
-use Rattle.printout.specs.Shown.{shown_lease, shown_leases}
+use Rattle.printout.specs.Contents.{lease_entry, lease_entries}
 use Rattle.printout.specs.Readable.{NoLineBreak, ReadableLease}
 
 few : (n : ℕ) → within_range n ≡ true → n ≤ 999
 few n e = let p = and_parts (nat_le 1 n) (nat_le n 999) e in leb-true n 999 p.1
 
 module _ {S : Type 0} (K : Kind S) (text : S → List ℕ) (unbroken : NoLineBreak text) (s : State S) (rows : List (Lease S)) (lawful : Lawful s rows) where
-  one : (l : Lease S) → Memᴰ l s.core.roll → ReadableLease (shown_lease K text s.core.roll l)
+  one : (l : Lease S) → Memᴰ l s.core.roll → ReadableLease (lease_entry K text s.core.roll l)
   one l m =
       let o = lawful.orderly in
       let n = lawful.numbers in
@@ -35,10 +35,10 @@ module _ {S : Type 0} (K : Kind S) (text : S → List ℕ) (unbroken : NoLineBre
         text = unbroken l.share;
       }
 
-  pub leases_readable : AllByRecursion ReadableLease (shown_leases K text s.core.roll)
+  pub leases_readable : AllByRecursion ReadableLease (lease_entries K text s.core.roll)
   leases_readable = go s.core.roll (λ l m. m)
     where
-      go : (ls : List (Lease S)) → ((l : Lease S) → Memᴰ l ls → Memᴰ l s.core.roll) → AllByRecursion ReadableLease (map (shown_lease K text s.core.roll) ls)
+      go : (ls : List (Lease S)) → ((l : Lease S) → Memᴰ l ls → Memᴰ l s.core.roll) → AllByRecursion ReadableLease (map (lease_entry K text s.core.roll) ls)
       go [] f = tt
       go (l ∷ ls) f = (one l (f l (Memᴰ.head refl)), go ls (λ k m. f k (Memᴰ.tail m)))
 

@@ -24,10 +24,10 @@ tree_lacks (node l r) = ((λ e. omega (arith, e)), lacks-append 10 (trees.text l
 pub trees_unbroken : NoLineBreak text_of_share
 trees_unbroken s = tree_lacks (tree s)
 
-permission_lacks : (p : Permission) → within p ≡ true → Lacks 10 (counts.text p)
+permission_lacks : (p : Permission) → within p ≡ true → Lacks 10 (counts.permission_text p)
 permission_lacks Empty h = ((λ e. omega (arith, e)), tt)
 permission_lacks (Source n) h = ((λ e. omega (arith, e)), decimal_lacks 10 n (omega arith) (let f = source_few n h in omega arith))
 permission_lacks (Readers k) h = ((λ e. omega (arith, e)), decimal_lacks 10 k (omega arith) (let f = (readers_few k h).1 in omega arith))
 
-pub counting_unbroken : NoLineBreak (λ (s : Counting). counts.text s.held)
+pub counting_unbroken : NoLineBreak (λ (s : Counting). counts.permission_text s.held)
 counting_unbroken s = permission_lacks s.held s.limited

@@ -1,5 +1,5 @@
 pub mod Adds
 pub mod Printouts
 pub mod Readable
-pub mod Shown
+pub mod Contents
 pub mod Tenancy

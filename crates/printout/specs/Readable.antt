@@ -2,8 +2,8 @@
 use Rattle.std.specs.Prelude.{◌≡◌, ◌≢◌, ℕ, ◌<◌, ◌^◌, List, [], IfSome, IfNone}
 use Rattle.std.specs.List.{AllByRecursion}
 use Rattle.lines.specs.declared.line.totals.Totals.{Totals}
-use Rattle.replay.specs.Told.{Told}
-use Rattle.printout.specs.Shown.{ShownLease, Shown, text_of}
+use Rattle.replay.specs.Faults.{RefusedEvent}
+use Rattle.printout.specs.Contents.{LeaseEntry, Contents, printout_bytes}
 
 -- none of the bytes is this one
 abbrev pub Lacks : ℕ → List ℕ → Type 0
@@ -17,12 +17,12 @@ NoLineBreak {S} text = (share : S) → Lacks 10 (text share)
 abbrev pub Small : ℕ → Type 0
 Small n = n < 2 ^ 64
 
-pub record ReadableTold (x : Told) : Type 0 where
+pub record ReadableRefusal (x : RefusedEvent) : Type 0 where
   pub event : Small x.event
   pub number : Small x.number
   pub level : IfSome x.level Small
 
-pub record ReadableLease (x : ShownLease) : Type 0 where
+pub record ReadableLease (x : LeaseEntry) : Type 0 where
   pub number : Small x.lease.number
   pub resource : Small x.lease.resource
   pub holder : Small x.lease.holder
@@ -39,12 +39,12 @@ pub record ReadableTotals (x : Totals) : Type 0 where
   pub lapsed : Small x.lapsed
 
 -- Its numbers are those that 64 bits hold, its texts have no line break, and without totals it has no leases.
-pub record IsReadable (p : Shown) : Type 0 where
-  pub refusals : AllByRecursion ReadableTold p.refusals
+pub record IsReadable (p : Contents) : Type 0 where
+  pub refusals : AllByRecursion ReadableRefusal p.refusals
   pub leases : AllByRecursion ReadableLease p.leases
   pub totals : IfSome p.totals ReadableTotals
   pub whole : IfNone p.totals (p.leases ≡ [])
 
 -- A printout can be read back: the same bytes show the same.
-abbrev pub OneShown : Type 0
-OneShown = (p q : Shown) → IsReadable p → IsReadable q → text_of p ≡ text_of q → p ≡ q
+abbrev pub OneContents : Type 0
+OneContents = (p q : Contents) → IsReadable p → IsReadable q → printout_bytes p ≡ printout_bytes q → p ≡ q

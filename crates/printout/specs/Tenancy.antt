@@ -3,7 +3,7 @@ use Rattle.std.specs.Prelude.{◌≡◌, ℕ, List, [], ◌∷◌, Ok, Err, Resu
 use Rattle.kinds.specs.declared.kind.KindOfShare.{KindOfShare}
 use Rattle.kinds.specs.declared.kind.KindOfShare.TheVariants.{Trees, Counting}
 use Rattle.trees.specs.Cells.{trees_kind, text_of_share}
-use Rattle.counting.specs.Counts.{counting_kind, text}
+use Rattle.counting.specs.Counts.{counting_kind, permission_text}
 use Rattle.shares.specs.Kind.{Kind}
 use Rattle.lending.specs.Office.{State, new_ledger}
 use Rattle.lending.specs.Layers.{Layers, pile}
@@ -11,10 +11,10 @@ use Rattle.quota.specs.Means.{quota_objects}
 use Rattle.term.specs.Means.{term_objects}
 use Rattle.chain.specs.Means.{chain_objects}
 use Rattle.book.specs.declared.header.Header.{Header}
-use Rattle.book.specs.Books.{opening, count_in}
+use Rattle.book.specs.Books.{opening, event_count}
 use Rattle.replay.specs.Whole.{RunConserved}
-use Rattle.printout.specs.Shown.{Shown, shown_unopened, text_of}
-use Rattle.printout.specs.Printouts.{shown}
+use Rattle.printout.specs.Contents.{Contents, contents_unopened, printout_bytes}
+use Rattle.printout.specs.Printouts.{contents}
 use Rattle.printout.specs.Readable.{IsReadable}
 
 module _ {S : Type 0} where
@@ -27,43 +27,43 @@ module _ {S : Type 0} where
   new_office header = pile (layers header) (new_ledger 1024)
 
   -- what the printout over it shows
-  abbrev pub shown_in : Header → Kind S → (S → List ℕ) → List ℕ → Shown
-  shown_in header K text b = shown K (layers header) text b (new_office header)
+  abbrev pub contents_in : Header → Kind S → (S → List ℕ) → List ℕ → Contents
+  contents_in header K permission_text b = contents K (layers header) permission_text b (new_office header)
 
   -- the lending promise of the events of a book, replayed over it
   abbrev pub ConservedIn : Header → Kind S → List ℕ → Type 0
-  ConservedIn header K b = RunConserved K (layers header) b (new_office header) (count_in b)
+  ConservedIn header K b = RunConserved K (layers header) b (new_office header) (event_count b)
 
 -- by the kind of share that the book names
-abbrev pub shown_kind : KindOfShare → Header → List ℕ → Shown
-shown_kind Trees header b = shown_in header trees_kind text_of_share b
-shown_kind Counting header b = shown_in header counting_kind (λ s. text s.held) b
+abbrev pub contents_of_kind : KindOfShare → Header → List ℕ → Contents
+contents_of_kind Trees header b = contents_in header trees_kind text_of_share b
+contents_of_kind Counting header b = contents_in header counting_kind (λ s. permission_text s.held) b
 
 abbrev pub ConservedKind : KindOfShare → Header → List ℕ → Type 0
 ConservedKind Trees header b = ConservedIn header trees_kind b
 ConservedKind Counting header b = ConservedIn header counting_kind b
 
-abbrev pub shown_by : Result Header ℕ → List ℕ → Shown
-shown_by (Err n) b = shown_unopened n
-shown_by (Ok header) b = shown_kind header.kind header b
+abbrev pub contents_by : Result Header ℕ → List ℕ → Contents
+contents_by (Err n) b = contents_unopened n
+contents_by (Ok header) b = contents_of_kind header.kind header b
 
 abbrev pub ConservedBy : Result Header ℕ → List ℕ → Type 0
 ConservedBy (Err n) b = Unit {0}
 ConservedBy (Ok header) b = ConservedKind header.kind header b
 
 -- What the printout of a book with these bytes shows.
-abbrev pub shown_of : List ℕ → Shown
-shown_of b = shown_by (opening b) b
+abbrev pub book_contents : List ℕ → Contents
+book_contents b = contents_by (opening b) b
 
 -- its bytes
-abbrev pub played : List ℕ → List ℕ
-played b = text_of (shown_of b)
+abbrev pub book_printout : List ℕ → List ℕ
+book_printout b = printout_bytes (book_contents b)
 
 -- Two books whose printouts are the same bytes show the same, and may be of different kinds. Both can be read, as those of
 -- `tenancy` can.
 abbrev pub OnePrintout : Type 0
-OnePrintout = (a b : List ℕ) → IsReadable (shown_of a) → IsReadable (shown_of b) → played a ≡ played b → shown_of a ≡ shown_of b
+OnePrintout = (a b : List ℕ) → IsReadable (book_contents a) → IsReadable (book_contents b) → book_printout a ≡ book_printout b → book_contents a ≡ book_contents b
 
 -- The lending promise of its events, if it opens.
-abbrev pub PlayedConserved : List ℕ → Type 0
-PlayedConserved b = ConservedBy (opening b) b
+abbrev pub BookConserved : List ℕ → Type 0
+BookConserved b = ConservedBy (opening b) b

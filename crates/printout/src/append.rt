@@ -3,10 +3,10 @@ ghost use Rattle.std.specs.Prelude.{◌≡◌, ◌<◌, [], length, map, OnOk, v
 ghost use Rattle.std.specs.List.{AllByRecursion};
 ghost use Rattle.std.specs.Option.{unwrap_or};
 ghost use Rattle.lines.specs.Lines.{line_at, refusal_line, total_line};
-ghost use Rattle.replay.specs.Told.{told};
+ghost use Rattle.replay.specs.Faults.{refused_event};
 ghost use Rattle.printout.specs.Adds.{Adds};
-ghost use Rattle.printout.specs.Readable.{ReadableTold, ReadableTotals};
-ghost use Rattle.printout.specs.Shown.{line_of, refusal_lines, shown_leases, lease_lines, totals_of};
+ghost use Rattle.printout.specs.Readable.{ReadableRefusal, ReadableTotals};
+ghost use Rattle.printout.specs.Contents.{line_of_refusal, refusal_lines, lease_entries, lease_lines, totals_of};
 
 use calls::Tallies;
 use desk::{count, issued};
@@ -18,8 +18,8 @@ use std::alloc::AllocError;
 
 // The line of a refused event.
 pub(crate) fn add_refusal(out: &mut Vec<u8>, fault: Fault) -> Result<(), AllocError>
-    ensures adds { Adds out.old.items (vec_capacity out.old) (line_of (told fault)) result out.new.items (vec_capacity out.new) }
-    ensures readable { ReadableTold (told fault) }
+    ensures adds { Adds out.old.items (vec_capacity out.old) (line_of_refusal (refused_event fault)) result out.new.items (vec_capacity out.new) }
+    ensures readable { ReadableRefusal (refused_event fault) }
 {
     add_refusal_line(out, usize::from(fault.event), fault.number(), fault.level())
 }
@@ -41,8 +41,8 @@ fn add_refusal_line(
 // The lines of refused events.
 #[tactic(auto, using(crate::proofs::Added::adds_first))]
 pub(crate) fn add_refusals(out: &mut Vec<u8>, faults: &[Fault]) -> Result<(), AllocError>
-    ensures adds { Adds out.old.items (vec_capacity out.old) (refusal_lines (map told faults.now)) result out.new.items (vec_capacity out.new) }
-    ensures readable { OnOk result (AllByRecursion ReadableTold (map told faults.now)) }
+    ensures adds { Adds out.old.items (vec_capacity out.old) (refusal_lines (map refused_event faults.now)) result out.new.items (vec_capacity out.new) }
+    ensures readable { OnOk result (AllByRecursion ReadableRefusal (map refused_event faults.now)) }
 {
     for fault in faults {
         add_refusal(out, *fault)?;
@@ -55,7 +55,7 @@ pub(crate) fn add_refusals(out: &mut Vec<u8>, faults: &[Fault]) -> Result<(), Al
 pub(crate) fn add_leases<O: Office>(out: &mut Vec<u8>, office: &O) -> Result<(), AllocError>
 where
     O::Kind: Printed,
-    ensures { Adds out.old.items (vec_capacity out.old) (lease_lines (shown_leases O.Kind.Share.kind O.Kind.Printed.text (O.Office.meaning office.now).core.roll)) result out.new.items (vec_capacity out.new) }
+    ensures { Adds out.old.items (vec_capacity out.old) (lease_lines (lease_entries O.Kind.Share.kind O.Kind.Printed.text (O.Office.meaning office.now).core.roll)) result out.new.items (vec_capacity out.new) }
 {
     for position in 0..count(office) {
         add_lease(out, office, position)?;

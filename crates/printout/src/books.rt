@@ -1,14 +1,14 @@
 ghost use Rattle.std.specs.Prelude.{◌≡◌, ◌≤◌, ◌+◌, ◌++◌, ◌⊎◌, IsErr, IsOk, OnOk, OnErr, drop, length, map, take, vec_len, vec_capacity};
-ghost use Rattle.book.specs.Books.{opening, count_in};
+ghost use Rattle.book.specs.Books.{opening, event_count};
 ghost use Rattle.lending.specs.Promise.{LendingConserved};
 ghost use Rattle.office.specs.Lawful.{unused};
 ghost use Rattle.replay.specs.Quiet.{AllQuiet};
-ghost use Rattle.replay.specs.Told.{told};
+ghost use Rattle.replay.specs.Faults.{refused_event};
 ghost use Rattle.replay.specs.Whole.{RunConserved};
 ghost use Rattle.printout.specs.Adds.{Begins, Adds};
-ghost use Rattle.printout.specs.Printouts.{shown, printed, refused, left};
-ghost use Rattle.printout.specs.Readable.{NoLineBreak, IsReadable, OneShown};
-ghost use Rattle.printout.specs.Shown.{shown_opened, text_of};
+ghost use Rattle.printout.specs.Printouts.{contents, printed_bytes, refused_events, state_left};
+ghost use Rattle.printout.specs.Readable.{NoLineBreak, IsReadable, OneContents};
+ghost use Rattle.printout.specs.Contents.{contents_opened, printout_bytes};
 
 use crate::append::{add_leases, add_refusal, add_refusals, add_totals};
 use calls::Tallies;
@@ -30,19 +30,19 @@ pub fn print_book<O: Piled>(
 ) -> Result<(), AllocError>
 where
     O::Kind: Printed,
-    ensures prints { OnOk result (out.new.items ≡ out.old.items ++ printed O.Kind.Share.kind (O.Office.layers office.old) O.Kind.Printed.text book.now (O.Office.meaning office.old)) }
-    ensures readable { NoLineBreak O.Kind.Printed.text → OnOk result (IsReadable (shown O.Kind.Share.kind (O.Office.layers office.old) O.Kind.Printed.text book.now (O.Office.meaning office.old))) }
-    ensures read_back { OneShown }
-    ensures leaves { OnOk result (O.Office.meaning office.new ≡ left O.Kind.Share.kind (O.Office.layers office.old) book.now (O.Office.meaning office.old)) }
-    ensures faults { OnOk result (map told (drop (vec_len faults.old) faults.new.items) ≡ refused O.Kind.Share.kind (O.Office.layers office.old) book.now (O.Office.meaning office.old)) }
+    ensures prints { OnOk result (out.new.items ≡ out.old.items ++ printed_bytes O.Kind.Share.kind (O.Office.layers office.old) O.Kind.Printed.text book.now (O.Office.meaning office.old)) }
+    ensures readable { NoLineBreak O.Kind.Printed.text → OnOk result (IsReadable (contents O.Kind.Share.kind (O.Office.layers office.old) O.Kind.Printed.text book.now (O.Office.meaning office.old))) }
+    ensures read_back { OneContents }
+    ensures leaves { OnOk result (O.Office.meaning office.new ≡ state_left O.Kind.Share.kind (O.Office.layers office.old) book.now (O.Office.meaning office.old)) }
+    ensures faults { OnOk result (map refused_event (drop (vec_len faults.old) faults.new.items) ≡ refused_events O.Kind.Share.kind (O.Office.layers office.old) book.now (O.Office.meaning office.old)) }
     ensures kept { take (vec_len faults.old) faults.new.items ≡ faults.old.items }
     ensures begins { Begins out.old.items out.new.items }
     ensures unopened { IsErr (opening book.now) → (office.new ≡ office.old) × (faults.new ≡ faults.old) }
-    ensures idle { AllQuiet O.Kind.Share.kind (O.Office.meaning office.old) book.now (count_in book.now) → office.new ≡ office.old }
-    ensures no_memory { OnErr result ((office.new ≡ office.old) ⊎ (O.Office.meaning office.new ≡ left O.Kind.Share.kind (O.Office.layers office.old) book.now (O.Office.meaning office.old))) }
-    ensures replayed { vec_len faults.old + count_in book.now ≤ vec_capacity faults.old → O.Office.meaning office.new ≡ left O.Kind.Share.kind (O.Office.layers office.old) book.now (O.Office.meaning office.old) }
-    ensures room { vec_len faults.old + count_in book.now ≤ vec_capacity faults.old → vec_len out.old + length (printed O.Kind.Share.kind (O.Office.layers office.old) O.Kind.Printed.text book.now (O.Office.meaning office.old)) ≤ vec_capacity out.old → IsOk result }
-    ensures conserved { RunConserved O.Kind.Share.kind (O.Office.layers office.old) book.now (O.Office.meaning office.old) (count_in book.now) }
+    ensures idle { AllQuiet O.Kind.Share.kind (O.Office.meaning office.old) book.now (event_count book.now) → office.new ≡ office.old }
+    ensures no_memory { OnErr result ((office.new ≡ office.old) ⊎ (O.Office.meaning office.new ≡ state_left O.Kind.Share.kind (O.Office.layers office.old) book.now (O.Office.meaning office.old))) }
+    ensures replayed { vec_len faults.old + event_count book.now ≤ vec_capacity faults.old → O.Office.meaning office.new ≡ state_left O.Kind.Share.kind (O.Office.layers office.old) book.now (O.Office.meaning office.old) }
+    ensures room { vec_len faults.old + event_count book.now ≤ vec_capacity faults.old → vec_len out.old + length (printed_bytes O.Kind.Share.kind (O.Office.layers office.old) O.Kind.Printed.text book.now (O.Office.meaning office.old)) ≤ vec_capacity out.old → IsOk result }
+    ensures conserved { RunConserved O.Kind.Share.kind (O.Office.layers office.old) book.now (O.Office.meaning office.old) (event_count book.now) }
     ensures unused { unused (O.Office.rows office.new) ≡ unused (O.Office.rows office.old) }
     ensures layers { O.Office.layers office.new ≡ O.Office.layers office.old }
     ensures lent { O.Office.lent office.new ≡ O.Office.lent office.old }
@@ -61,18 +61,18 @@ fn replay_and_print<O: Piled>(
 ) -> Result<(), AllocError>
 where
     O::Kind: Printed,
-    ensures prints { OnOk result (out.new.items ≡ out.old.items ++ printed O.Kind.Share.kind (O.Office.layers office.old) O.Kind.Printed.text book.now (O.Office.meaning office.old)) }
-    ensures readable { NoLineBreak O.Kind.Printed.text → OnOk result (IsReadable (shown O.Kind.Share.kind (O.Office.layers office.old) O.Kind.Printed.text book.now (O.Office.meaning office.old))) }
-    ensures leaves { OnOk result (O.Office.meaning office.new ≡ left O.Kind.Share.kind (O.Office.layers office.old) book.now (O.Office.meaning office.old)) }
-    ensures faults { OnOk result (map told (drop (vec_len faults.old) faults.new.items) ≡ refused O.Kind.Share.kind (O.Office.layers office.old) book.now (O.Office.meaning office.old)) }
+    ensures prints { OnOk result (out.new.items ≡ out.old.items ++ printed_bytes O.Kind.Share.kind (O.Office.layers office.old) O.Kind.Printed.text book.now (O.Office.meaning office.old)) }
+    ensures readable { NoLineBreak O.Kind.Printed.text → OnOk result (IsReadable (contents O.Kind.Share.kind (O.Office.layers office.old) O.Kind.Printed.text book.now (O.Office.meaning office.old))) }
+    ensures leaves { OnOk result (O.Office.meaning office.new ≡ state_left O.Kind.Share.kind (O.Office.layers office.old) book.now (O.Office.meaning office.old)) }
+    ensures faults { OnOk result (map refused_event (drop (vec_len faults.old) faults.new.items) ≡ refused_events O.Kind.Share.kind (O.Office.layers office.old) book.now (O.Office.meaning office.old)) }
     ensures kept { take (vec_len faults.old) faults.new.items ≡ faults.old.items }
     ensures begins { Begins out.old.items out.new.items }
     ensures unopened { IsErr (opening book.now) → (office.new ≡ office.old) × (faults.new ≡ faults.old) }
-    ensures idle { AllQuiet O.Kind.Share.kind (O.Office.meaning office.old) book.now (count_in book.now) → office.new ≡ office.old }
-    ensures no_memory { OnErr result ((office.new ≡ office.old) ⊎ (O.Office.meaning office.new ≡ left O.Kind.Share.kind (O.Office.layers office.old) book.now (O.Office.meaning office.old))) }
-    ensures replayed { vec_len faults.old + count_in book.now ≤ vec_capacity faults.old → O.Office.meaning office.new ≡ left O.Kind.Share.kind (O.Office.layers office.old) book.now (O.Office.meaning office.old) }
-    ensures room { vec_len faults.old + count_in book.now ≤ vec_capacity faults.old → vec_len out.old + length (printed O.Kind.Share.kind (O.Office.layers office.old) O.Kind.Printed.text book.now (O.Office.meaning office.old)) ≤ vec_capacity out.old → IsOk result }
-    ensures conserved { RunConserved O.Kind.Share.kind (O.Office.layers office.old) book.now (O.Office.meaning office.old) (count_in book.now) }
+    ensures idle { AllQuiet O.Kind.Share.kind (O.Office.meaning office.old) book.now (event_count book.now) → office.new ≡ office.old }
+    ensures no_memory { OnErr result ((office.new ≡ office.old) ⊎ (O.Office.meaning office.new ≡ state_left O.Kind.Share.kind (O.Office.layers office.old) book.now (O.Office.meaning office.old))) }
+    ensures replayed { vec_len faults.old + event_count book.now ≤ vec_capacity faults.old → O.Office.meaning office.new ≡ state_left O.Kind.Share.kind (O.Office.layers office.old) book.now (O.Office.meaning office.old) }
+    ensures room { vec_len faults.old + event_count book.now ≤ vec_capacity faults.old → vec_len out.old + length (printed_bytes O.Kind.Share.kind (O.Office.layers office.old) O.Kind.Printed.text book.now (O.Office.meaning office.old)) ≤ vec_capacity out.old → IsOk result }
+    ensures conserved { RunConserved O.Kind.Share.kind (O.Office.layers office.old) book.now (O.Office.meaning office.old) (event_count book.now) }
     ensures unused { unused (O.Office.rows office.new) ≡ unused (O.Office.rows office.old) }
     ensures layers { O.Office.layers office.new ≡ O.Office.layers office.old }
     ensures lent { O.Office.lent office.new ≡ O.Office.lent office.old }
@@ -93,8 +93,8 @@ fn add_lines<O: Office>(
 ) -> Result<(), AllocError>
 where
     O::Kind: Printed,
-    ensures adds { Adds out.old.items (vec_capacity out.old) (text_of (shown_opened O.Kind.Share.kind O.Kind.Printed.text (map told faults.now) tallies (O.Office.meaning office.now))) result out.new.items (vec_capacity out.new) }
-    ensures readable { NoLineBreak O.Kind.Printed.text → OnOk result (IsReadable (shown_opened O.Kind.Share.kind O.Kind.Printed.text (map told faults.now) tallies (O.Office.meaning office.now))) }
+    ensures adds { Adds out.old.items (vec_capacity out.old) (printout_bytes (contents_opened O.Kind.Share.kind O.Kind.Printed.text (map refused_event faults.now) tallies (O.Office.meaning office.now))) result out.new.items (vec_capacity out.new) }
+    ensures readable { NoLineBreak O.Kind.Printed.text → OnOk result (IsReadable (contents_opened O.Kind.Share.kind O.Kind.Printed.text (map refused_event faults.now) tallies (O.Office.meaning office.now))) }
 {
     add_refusals(out, faults)?;
     add_leases(out, office)?;

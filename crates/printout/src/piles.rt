@@ -3,11 +3,11 @@ ghost use Rattle.lending.specs.Layers.{layered, pile};
 ghost use Rattle.quota.specs.Means.{quota_objects};
 ghost use Rattle.term.specs.Means.{term_objects};
 ghost use Rattle.chain.specs.Means.{chain_objects};
-ghost use Rattle.book.specs.Told.{number_of};
-ghost use Rattle.printout.specs.Printouts.{shown};
+ghost use Rattle.book.specs.Numbers.{book_reason_number};
+ghost use Rattle.printout.specs.Printouts.{contents};
 ghost use Rattle.printout.specs.Readable.{NoLineBreak, IsReadable};
-ghost use Rattle.printout.specs.Shown.{shown_unopened, text_of};
-ghost use Rattle.printout.specs.Tenancy.{layers, shown_in, shown_of, played, OnePrintout, ConservedIn, PlayedConserved};
+ghost use Rattle.printout.specs.Contents.{contents_unopened, printout_bytes};
+ghost use Rattle.printout.specs.Tenancy.{layers, contents_in, book_contents, book_printout, OnePrintout, ConservedIn, BookConserved};
 
 use crate::books::print_book;
 use crate::append::add_refusal;
@@ -29,10 +29,10 @@ const QUOTA: u16 = 64;
 // The printout of a book, replayed in a new office of its own kind of share: Quota on Term on Chain on a ledger.
 #[tactic(auto, using(crate::proofs::Backs::one_printout, crate::proofs::Unbroken::trees_unbroken, crate::proofs::Unbroken::counting_unbroken))]
 pub fn tenancy(alloc: Global, book: &[u8]) -> Result<Vec<u8>, AllocError>
-    ensures prints { IfOk result (λ printout. printout.items ≡ played book.now) }
-    ensures readable { OnOk result (IsReadable (shown_of book.now)) }
+    ensures prints { IfOk result (λ printout. printout.items ≡ book_printout book.now) }
+    ensures readable { OnOk result (IsReadable (book_contents book.now)) }
     ensures one_printout { OnePrintout }
-    ensures conserved { PlayedConserved book.now }
+    ensures conserved { BookConserved book.now }
 {
     match Book::open(book) {
         Ok(Book { header, .. }) => of_kind!(header.kind, print_new(alloc, header, book)),
@@ -42,8 +42,8 @@ pub fn tenancy(alloc: Global, book: &[u8]) -> Result<Vec<u8>, AllocError>
 
 // The printout of a book that doesn't open.
 fn print_unopened(alloc: Global, reason: BookReason) -> Result<Vec<u8>, AllocError>
-    ensures prints { IfOk result (λ printout. printout.items ≡ text_of (shown_unopened (number_of reason))) }
-    ensures readable { OnOk result (IsReadable (shown_unopened (number_of reason))) }
+    ensures prints { IfOk result (λ printout. printout.items ≡ printout_bytes (contents_unopened (book_reason_number reason))) }
+    ensures readable { OnOk result (IsReadable (contents_unopened (book_reason_number reason))) }
 {
     let mut out = Vec::new(alloc);
     add_refusal(&mut out, reason.into())?;
@@ -52,8 +52,8 @@ fn print_unopened(alloc: Global, reason: BookReason) -> Result<Vec<u8>, AllocErr
 
 // The printout over a new ledger.
 fn print_new<S: Printed>(alloc: Global, header: Header, book: &[u8]) -> Result<Vec<u8>, AllocError>
-    ensures prints { IfOk result (λ printout. printout.items ≡ text_of (shown_in header S.kind S.text book.now)) }
-    ensures readable { NoLineBreak S.text → OnOk result (IsReadable (shown_in header S.kind S.text book.now)) }
+    ensures prints { IfOk result (λ printout. printout.items ≡ printout_bytes (contents_in header S.kind S.text book.now)) }
+    ensures readable { NoLineBreak S.text → OnOk result (IsReadable (contents_in header S.kind S.text book.now)) }
     ensures conserved { ConservedIn header S.kind book.now }
 {
     lending_is_conserved::<S>();
@@ -78,8 +78,8 @@ fn print_over<O: Piled + Drop>(
 ) -> Result<Vec<u8>, AllocError>
 where
     O::Kind: Printed,
-    ensures prints { IfOk result (λ printout. printout.items ≡ text_of (shown O.Kind.Share.kind (layers header ++ O.Office.layers below) O.Kind.Printed.text book.now (pile (layers header) (O.Office.meaning below)))) }
-    ensures readable { NoLineBreak O.Kind.Printed.text → OnOk result (IsReadable (shown O.Kind.Share.kind (layers header ++ O.Office.layers below) O.Kind.Printed.text book.now (pile (layers header) (O.Office.meaning below)))) }
+    ensures prints { IfOk result (λ printout. printout.items ≡ printout_bytes (contents O.Kind.Share.kind (layers header ++ O.Office.layers below) O.Kind.Printed.text book.now (pile (layers header) (O.Office.meaning below)))) }
+    ensures readable { NoLineBreak O.Kind.Printed.text → OnOk result (IsReadable (contents O.Kind.Share.kind (layers header ++ O.Office.layers below) O.Kind.Printed.text book.now (pile (layers header) (O.Office.meaning below)))) }
 {
     let mut office = with_quota(with_term(with_chain(below, header), header));
     let mut faults = Vec::new(alloc);

@@ -1,11 +1,11 @@
 -- What the rule Quota objects to.
 use Rattle.std.specs.Prelude.{ℕ, nat_le}
 use Rattle.lending.specs.Office.Request.{opening, delegating, assigning}
-use Rattle.lending.specs.Roll.{held}
+use Rattle.lending.specs.Roll.{count_held}
 use Rattle.lending.specs.Layers.{Own, number_if}
 
 -- 21: the new holder has so many live leases or more
 abbrev pub quota_objects : {S : Type 0} → ℕ → Own S
-quota_objects limit roll today (opening resource holder) = number_if (nat_le limit (held roll holder)) 21
-quota_objects limit roll today (delegating lender holder due) = number_if (nat_le limit (held roll holder)) 21
-quota_objects limit roll today (assigning lease holder) = number_if (nat_le limit (held roll holder)) 21
+quota_objects limit roll today (opening resource holder) = number_if (nat_le limit (count_held roll holder)) 21
+quota_objects limit roll today (delegating lender holder due) = number_if (nat_le limit (count_held roll holder)) 21
+quota_objects limit roll today (assigning lease holder) = number_if (nat_le limit (count_held roll holder)) 21

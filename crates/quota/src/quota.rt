@@ -1,7 +1,7 @@
 ghost use Rattle.std.specs.Prelude.{◌≡◌, ◌∷◌};
 ghost use Rattle.lending.specs.Layers.{layered};
 ghost use Rattle.lending.specs.Office.{SetUp};
-ghost use Rattle.lending.specs.Roll.{held};
+ghost use Rattle.lending.specs.Roll.{count_held};
 ghost use Rattle.quota.specs.Means.{quota_objects};
 
 use layer::{Layer, Request, Rule};
@@ -41,7 +41,7 @@ impl<O: Office> Rule<O> for Quota {
 
 // How many live leases a holder has.
 fn held_by<O: Office>(office: &O, holder: u16) -> usize
-    ensures { result ≡ held (O.Office.meaning office.now).core.roll holder }
+    ensures { result ≡ count_held (O.Office.meaning office.now).core.roll holder }
 {
     leases(office)
         .filter(|lease| lease.holder == holder)

@@ -19,7 +19,7 @@ use Rattle.lending.proofs.Idling.{Acts, acts_then, acts_yields, acts_day}
 use Rattle.lending.proofs.Steps.{by_checks}
 use Rattle.office.specs.Lawful.{Lawful}
 use Rattle.calls.specs.declared.list.Tallies.{Tallies}
-use Rattle.calls.specs.Listed.{all_closed, counted}
+use Rattle.calls.specs.Lists.{all_closed, tallies_with}
 use Rattle.replay.specs.Limits.{most_closed}
 
 module _ {S : Type 0} (K : Kind S) where
@@ -70,7 +70,7 @@ module _ {S : Type 0} (K : Kind S) where
   one_at_most (share s) = omega arith
   one_at_most (refused r) = omega arith
 
-  few_closed : (s t : State S) (c : Call) (a : Answer S) (tallies : Tallies) → Does K s c a t → length s.core.roll ≤ most_closed → all_closed (counted tallies c a) ≤ all_closed tallies + most_closed
+  few_closed : (s t : State S) (c : Call) (a : Answer S) (tallies : Tallies) → Does K s c a t → length s.core.roll ≤ most_closed → all_closed (tallies_with tallies c a) ≤ all_closed tallies + most_closed
   few_closed s t (open_resource r h) a tallies does rows = omega arith
   few_closed s t (delegate p h d) a tallies does rows = omega arith
   few_closed s t (yield n) a tallies does rows = let one = one_at_most a in omega arith
@@ -87,5 +87,5 @@ module _ {S : Type 0} (K : Kind S) where
   few_closed s t (standing r h) a tallies does rows = omega arith
   few_closed s t (hand_in n) a tallies does rows = let k = ends_with (length s.core.roll) s t a (perform K s (hand_in n)) (most_hand_in s n) does in omega arith
 
-  pub few_more : (s t : State S) (rows : List (Lease S)) → Lawful s rows → (c : Call) (a : Answer S) (tallies : Tallies) → Does K s c a t → all_closed (counted tallies c a) ≤ all_closed tallies + most_closed
+  pub few_more : (s t : State S) (rows : List (Lease S)) → Lawful s rows → (c : Call) (a : Answer S) (tallies : Tallies) → Does K s c a t → all_closed (tallies_with tallies c a) ≤ all_closed tallies + most_closed
   few_more s t rows law c a tallies does = few_closed s t c a tallies does (let fits = law.fits in let capacity = law.capacity in omega arith)

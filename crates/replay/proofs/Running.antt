@@ -9,7 +9,7 @@ use Rattle.lending.specs.Layers.{Layers, Follow}
 use Rattle.lending.specs.Outcome.{Call, Outcome}
 use Rattle.lending.specs.Outcome.Outcome.{refuses, tells, grants}
 use Rattle.lending.specs.Perform.{perform, Ends, Does}
-use Rattle.lending.specs.Play.{answer_of, state_after}
+use Rattle.lending.specs.Play.{outcome_answer, state_after}
 use Rattle.lending.specs.History.{Moment, Leads, EachCameTo}
 use Rattle.lending.specs.Promise.{LendingConserved}
 use Rattle.lending.proofs.Histories.{leads_on}
@@ -17,46 +17,46 @@ use Rattle.lending.proofs.Plays.{worked_call}
 use Rattle.book.specs.declared.code.Code.{Code}
 use Rattle.book.specs.declared.header.Header.{Header}
 use Rattle.book.specs.declared.book.Book.{Book}
-use Rattle.book.specs.Books.{opening, count_in, event_in, bytes_of}
-use Rattle.book.specs.Events.{asked}
+use Rattle.book.specs.Books.{opening, event_count, event_in, book_bytes}
+use Rattle.book.specs.Events.{code_and_operands}
 use Rattle.calls.specs.declared.list.Tallies.{Tallies}
-use Rattle.calls.specs.Listed.{SomeOffice, all_closed, counted}
+use Rattle.calls.specs.Lists.{SomeOffice, all_closed, tallies_with}
 use Rattle.calls.proofs.Following.{follows, each_follows}
 use Rattle.replay.specs.declared.fault.Fault.{Fault}
 use Rattle.replay.specs.declared.session.Reading.{Reading}
-use Rattle.replay.specs.Told.{Told, told, told_of}
+use Rattle.replay.specs.Faults.{RefusedEvent, refused_event, refused_event_in}
 use Rattle.replay.specs.Events.{Next, event_at, if_opened, if_left, asks, next, next_by, call_of}
 use Rattle.replay.specs.Events.Next.{nothing, no_call, a_call}
 use Rattle.replay.specs.Steps.{Steps}
-use Rattle.replay.specs.Whole.{Opens, Turn, told_by, listed, history, refusals, tallies_of, turn_on, run, RunConserved, Replay}
-use Rattle.replay.specs.Whole.Turn.{passed, made}
-use Rattle.replay.specs.Came.{Came, Events, Replayed, OneReplay}
+use Rattle.replay.specs.Whole.{Opens, Turn, refused_event_by, one_or_none, history, refusals, tallies_of, turn_on, run, RunConserved, Replay}
+use Rattle.replay.specs.Whole.Turn.{stepped_over, call_made}
+use Rattle.replay.specs.Replayed.{ComesTo, Events, Replayed, OneReplay}
 
 -- a book's header has the count of its events
-pub header_counts : (book : Book) → count_in (bytes_of book) ≡ book.header.events
+pub header_counts : (book : Book) → event_count (book_bytes book) ≡ book.header.events
 header_counts book = omega arith
 
 -- an event of a book that opens and has more
-there : (b : List ℕ) (n i : ℕ) → Opens (opening b) n → i < count_in b → (e : ℕ × List ℕ) × (event_at b i ≡ Ok e)
+there : (b : List ℕ) (n i : ℕ) → Opens (opening b) n → i < event_count b → (e : ℕ × List ℕ) × (event_at b i ≡ Ok e)
 unfolding event_at
 there b n i opens less = go (opening b) opens
   where
     go : (r : Result Header ℕ) → Opens r n → (e : ℕ × List ℕ) × (if_opened r (if_left (event_in b i)) ≡ Ok e)
     go (Err k) o = absurd o
-    go (Ok h) o = (_, ap if_left (ap (λ (t : Bool). if t then Some (slice_index b (8 + i), take 6 (drop (8 + count_in b + 6 * i) b)) else None) (lt-ltb i (count_in b) less)))
+    go (Ok h) o = (_, ap if_left (ap (λ (t : Bool). if t then Some (slice_index b (8 + i), take 6 (drop (8 + event_count b + 6 * i) b)) else None) (lt-ltb i (event_count b) less)))
 
 -- tallies with these counts
 same_tallies : (x y : Tallies) → x.yielded ≡ y.yielded → x.merged ≡ y.merged → x.recalled ≡ y.recalled → x.lapsed ≡ y.lapsed → x ≡ y
 same_tallies x y a b c d = λ i. record { yielded = a i; merged = b i; recalled = c i; lapsed = d i }
 
 -- one moment more, with these tallies
-counted_on : {S : Type 0} (m : Moment S) (es : List (Turn S)) (x : Tallies) → x ≡ tallies_of es → counted x m.call m.answer ≡ tallies_of (made m ∷ es)
+counted_on : {S : Type 0} (m : Moment S) (es : List (Turn S)) (x : Tallies) → x ≡ tallies_of es → tallies_with x m.call m.answer ≡ tallies_of (call_made m ∷ es)
 counted_on m es x e =
     let a = ap (λ (w : Tallies). w.yielded) e in
     let d = ap (λ (w : Tallies). w.merged) e in
     let f = ap (λ (w : Tallies). w.recalled) e in
     let g = ap (λ (w : Tallies). w.lapsed) e in
-    same_tallies (counted x m.call m.answer) (tallies_of (made m ∷ es)) (omega arith) (omega arith) (omega arith) (omega arith)
+    same_tallies (tallies_with x m.call m.answer) (tallies_of (call_made m ∷ es)) (omega arith) (omega arith) (omega arith) (omega arith)
 
 module _ {S : Type 0} (K : Kind S) where
   -- the calls of some events are a list of calls
@@ -64,29 +64,29 @@ module _ {S : Type 0} (K : Kind S) where
   events_lead b [] s t e = e
   events_lead b (e ∷ es) s t h = go (next b (length es)) e h.2 (events_lead b es s h.0 h.1)
     where
-      go : (x : Next) (e : Turn S) → Came K x e h.0 t → Leads K s (history es) h.0 → Leads K s (history (e ∷ es)) t
+      go : (x : Next) (e : Turn S) → ComesTo K x e h.0 t → Leads K s (history es) h.0 → Leads K s (history (e ∷ es)) t
       go (nothing n) e c l = absurd c
-      go (no_call n) (passed k) c l = subst (λ (u : State S). Leads K s (history es) u) (sym c.1) l
-      go (no_call n) (made m) c l = absurd c
-      go (a_call n) (passed k) c l = absurd c
-      go (a_call n) (made m) c l = subst (λ (u : State S). Leads K s (history es) u × Does K u m.call m.answer t) (sym c.0) (l, subst (λ (w : Call). Does K h.0 w m.answer t) (sym c.1) c.2)
+      go (no_call n) (stepped_over k) c l = subst (λ (u : State S). Leads K s (history es) u) (sym c.1) l
+      go (no_call n) (call_made m) c l = absurd c
+      go (a_call n) (stepped_over k) c l = absurd c
+      go (a_call n) (call_made m) c l = subst (λ (u : State S). Leads K s (history es) u × Does K u m.call m.answer t) (sym c.0) (l, subst (λ (w : Call). Does K h.0 w m.answer t) (sym c.1) c.2)
 
 module _ {S : Type 0} (K : Kind S) (layers : Layers S) where
   -- an event that came to something, as it is worked out
-  turn_worked : (x : Next) (e : Turn S) (es : List (Turn S)) (u t : State S) (p : List (Turn S) × State S) → Came K x e u t → EachCameTo (Follow layers) (history (e ∷ es)) → Follow layers t → (EachCameTo (Follow layers) (history es) → Follow layers u → (es, u) ≡ p) → (e ∷ es, t) ≡ turn_on K layers x p
+  turn_worked : (x : Next) (e : Turn S) (es : List (Turn S)) (u t : State S) (p : List (Turn S) × State S) → ComesTo K x e u t → EachCameTo (Follow layers) (history (e ∷ es)) → Follow layers t → (EachCameTo (Follow layers) (history es) → Follow layers u → (es, u) ≡ p) → (e ∷ es, t) ≡ turn_on K layers x p
   turn_worked (nothing n) e es u t p c each f before = absurd c
-  turn_worked (no_call n) (passed k) es u t p c each f before =
+  turn_worked (no_call n) (stepped_over k) es u t p c each f before =
       let q = before each (subst (Follow layers) c.1 f) in
-      ap₂ (λ (j : ℕ) (w : State S). (passed j ∷ es, w)) c.0 c.1 ∙ ap (λ (z : List (Turn S) × State S). (passed n ∷ z.0, z.1)) q
-  turn_worked (no_call n) (made m) es u t p c each f before = absurd c
-  turn_worked (a_call n) (passed k) es u t p c each f before = absurd c
-  turn_worked (a_call n) (made m) es u t p c each f before =
+      ap₂ (λ (j : ℕ) (w : State S). (stepped_over j ∷ es, w)) c.0 c.1 ∙ ap (λ (z : List (Turn S) × State S). (stepped_over n ∷ z.0, z.1)) q
+  turn_worked (no_call n) (call_made m) es u t p c each f before = absurd c
+  turn_worked (a_call n) (stepped_over k) es u t p c each f before = absurd c
+  turn_worked (a_call n) (call_made m) es u t p c each f before =
       let q = before each.1 (subst (Follow layers) c.0 each.0) in
       let at : u ≡ p.1 = ap (λ (z : List (Turn S) × State S). z.1) q in
       let known = worked_call layers (perform K p.1 n) p.1 t m.answer f (subst (λ (w : State S). Does K w n m.answer t) at c.2) in
       let start : m.before ≡ p.1 = c.0 ∙ at in
-      let moment : m ≡ record { before = p.1; call = n; answer = answer_of (perform K p.1 n) } = λ i. record { before = start i; call = c.1 i; answer = known.0 i } in
-      ap₂ (λ (ys : List (Turn S)) (w : State S). (ys, w)) (ap₂ (λ (y : Moment S) (ys : List (Turn S)). made y ∷ ys) moment (ap (λ (z : List (Turn S) × State S). z.0) q)) known.1
+      let moment : m ≡ record { before = p.1; call = n; answer = outcome_answer (perform K p.1 n) } = λ i. record { before = start i; call = c.1 i; answer = known.0 i } in
+      ap₂ (λ (ys : List (Turn S)) (w : State S). (ys, w)) (ap₂ (λ (y : Moment S) (ys : List (Turn S)). call_made y ∷ ys) moment (ap (λ (z : List (Turn S) × State S). z.0) q)) known.1
 
   -- and so all of them
   events_worked : (b : List ℕ) (es : List (Turn S)) (s t : State S) → Events K b es s t → EachCameTo (Follow layers) (history es) → Follow layers t → (es, t) ≡ run K layers b s (length es)
@@ -98,7 +98,7 @@ module _ {S : Type 0} (K : Kind S) (layers : Layers S) where
   run_leads b s zero = refl
   run_leads b s (suc n) = go (next b n) (run K layers b s n) (run_leads b s n)
     where
-      ends : (o : Outcome S) (t : State S) → Ends o t (answer_of o) (state_after layers o t)
+      ends : (o : Outcome S) (t : State S) → Ends o t (outcome_answer o) (state_after layers o t)
       ends (refuses r) t = (refl, refl)
       ends (tells a) t = (refl, refl)
       ends (grants a u) t = (refl, refl)
@@ -139,7 +139,7 @@ module _ {O S : Type 0} (K : Kind S) (means : O → State S) (layers : O → Lay
 
 module _ {S : Type 0} (K : Kind S) (Of : State S → Type 0) where
   -- the promise of some events
-  replayed : LendingConserved K → (b : List ℕ) (s t : State S) (n : ℕ) (faults : List Fault) (tallies : Tallies) (es : List (Turn S)) → length es ≡ n → Events K b es s t → EachCameTo Of (history es) → map told faults ≡ refusals es → tallies ≡ tallies_of es → Replayed K Of b s n faults tallies t
+  replayed : LendingConserved K → (b : List ℕ) (s t : State S) (n : ℕ) (faults : List Fault) (tallies : Tallies) (es : List (Turn S)) → length es ≡ n → Events K b es s t → EachCameTo Of (history es) → map refused_event faults ≡ refusals es → tallies ≡ tallies_of es → Replayed K Of b s n faults tallies t
   replayed always b s t n faults tallies es every events stood refused tallied =
       let leads = events_lead K b es s t events in
       record {
@@ -157,7 +157,7 @@ module _ {S : Type 0} (K : Kind S) (Of : State S → Type 0) where
   none_read always b s tallies none = replayed always b s s 0 [] tallies [] refl refl tt refl (same_tallies tallies (tallies_of {S = S} []) (omega arith) (omega arith) (omega arith) (omega arith))
 
   -- one event more
-  pub one_more : LendingConserved K → (b : List ℕ) (s t u : State S) (m n : ℕ) (faults more : List Fault) (x y : Reading) (r : Result (Unit {0}) Fault) → Opens (opening b) m → n < count_in b → Replayed K Of b s n faults x.tallies t → x.done ≡ n → Of t → Steps K (next b x.done) t x r y u → map told more ≡ map told faults ++ listed (told_of r) → Replayed K Of b s (n + 1) more y.tallies u × (y.done ≡ n + 1)
+  pub one_more : LendingConserved K → (b : List ℕ) (s t u : State S) (m n : ℕ) (faults more : List Fault) (x y : Reading) (r : Result (Unit {0}) Fault) → Opens (opening b) m → n < event_count b → Replayed K Of b s n faults x.tallies t → x.done ≡ n → Of t → Steps K (next b x.done) t x r y u → map refused_event more ≡ map refused_event faults ++ one_or_none (refused_event_in r) → Replayed K Of b s (n + 1) more y.tallies u × (y.done ≡ n + 1)
   one_more always b s t u m n faults more x y r opens less so_far done here steps grows = by_event (there b m x.done opens (omega arith))
     where
       es : List (Turn S)
@@ -166,37 +166,37 @@ module _ {S : Type 0} (K : Kind S) (Of : State S → Type 0) where
       place : x.done ≡ length es
       place = done ∙ sym so_far.every
 
-      with : (turn : Turn S) → Came K (next b x.done) turn t u → EachCameTo Of (history (turn ∷ es)) → told_of r ≡ told_by (x.done + 1) turn → y.tallies ≡ tallies_of (turn ∷ es) → Replayed K Of b s (n + 1) more y.tallies u
+      with : (turn : Turn S) → ComesTo K (next b x.done) turn t u → EachCameTo Of (history (turn ∷ es)) → refused_event_in r ≡ refused_event_by (x.done + 1) turn → y.tallies ≡ tallies_of (turn ∷ es) → Replayed K Of b s (n + 1) more y.tallies u
       with turn came stood named counts = replayed always b s u (n + 1) more y.tallies (turn ∷ es)
           (let k = so_far.every in omega arith)
-          (t, so_far.events, subst (λ (j : ℕ). Came K (next b j) turn t u) place came)
+          (t, so_far.events, subst (λ (j : ℕ). ComesTo K (next b j) turn t u) place came)
           stood
-          (grows ∙ ap₂ (λ (a c : List Told). a ++ c) so_far.refused (ap listed (named ∙ ap (λ (k : ℕ). told_by (k + 1) turn) place)))
+          (grows ∙ ap₂ (λ (a c : List RefusedEvent). a ++ c) so_far.refused (ap one_or_none (named ∙ ap (λ (k : ℕ). refused_event_by (k + 1) turn) place)))
           counts
 
       by_asked : (q : Result (Code × List ℕ) ℕ) → next b x.done ≡ asks q → Steps K (asks q) t x r y u → Replayed K Of b s (n + 1) more y.tallies u × (y.done ≡ n + 1)
       by_asked (Err k) is z = (
-        with (passed k) (subst (λ (w : Next). Came K w (passed k) t u) (sym is) (refl, z.1.2)) so_far.stood z.1.0 (z.1.1 ∙ so_far.tallied),
+        with (stepped_over k) (subst (λ (w : Next). ComesTo K w (stepped_over k) t u) (sym is) (refl, z.1.2)) so_far.stood z.1.0 (z.1.1 ∙ so_far.tallied),
         let j = z.0 in omega arith,
       )
       by_asked (Ok v) is z =
           let c = call_of v.0 v.1 in
           let moment : Moment S = record { before = t; call = c; answer = z.1.answer } in (
-            with (made moment) (subst (λ (w : Next). Came K w (made moment) t u) (sym is) (refl, refl, z.1.does)) (here, so_far.stood) z.1.tells (z.1.counts ∙ counted_on moment es x.tallies so_far.tallied),
+            with (call_made moment) (subst (λ (w : Next). ComesTo K w (call_made moment) t u) (sym is) (refl, refl, z.1.does)) (here, so_far.stood) z.1.tells (z.1.counts ∙ counted_on moment es x.tallies so_far.tallied),
             let j = z.0 in omega arith,
           )
 
       by_event : (e : ℕ × List ℕ) × (event_at b x.done ≡ Ok e) → Replayed K Of b s (n + 1) more y.tallies u × (y.done ≡ n + 1)
       by_event found =
           let is = ap next_by found.1 in
-          by_asked (asked found.0.0 found.0.1) is (subst (λ (q : Next). Steps K q t x r y u) is steps)
+          by_asked (code_and_operands found.0.0 found.0.1) is (subst (λ (q : Next). Steps K q t x r y u) is steps)
 
 -- the faults with that of a step, if it was refused
-pub one_fault : (faults more : List Fault) (r : Result (Unit {0}) Fault) (fault : Fault) → more ≡ faults ++ (fault ∷ []) → r ≡ Err fault → map told more ≡ map told faults ++ listed (told_of r)
-one_fault faults more r fault pushed is = ap (map told) pushed ∙ map-append told faults (fault ∷ []) ∙ ap (λ (q : Result (Unit {0}) Fault). map told faults ++ listed (told_of q)) (sym is)
+pub one_fault : (faults more : List Fault) (r : Result (Unit {0}) Fault) (fault : Fault) → more ≡ faults ++ (fault ∷ []) → r ≡ Err fault → map refused_event more ≡ map refused_event faults ++ one_or_none (refused_event_in r)
+one_fault faults more r fault pushed is = ap (map refused_event) pushed ∙ map-append refused_event faults (fault ∷ []) ∙ ap (λ (q : Result (Unit {0}) Fault). map refused_event faults ++ one_or_none (refused_event_in q)) (sym is)
 
-pub no_fault : (faults : List Fault) (r : Result (Unit {0}) Fault) → ((fault : Fault) → r ≡ Err fault → ⊥) → map told faults ≡ map told faults ++ listed (told_of r)
-no_fault faults (Ok x) none = sym (append-nil (map told faults))
+pub no_fault : (faults : List Fault) (r : Result (Unit {0}) Fault) → ((fault : Fault) → r ≡ Err fault → ⊥) → map refused_event faults ≡ map refused_event faults ++ one_or_none (refused_event_in r)
+no_fault faults (Ok x) none = sym (append-nil (map refused_event faults))
 no_fault faults (Err fault) none = absurd (none fault refl)
 
 -- what holds of an answer within an answer

@@ -6,8 +6,8 @@ use Rattle.book.specs.declared.code.Code.{Code}
 use Rattle.book.specs.declared.code.Code.TheVariants.{Open, Delegate, Yield, Merge, Assign, Recall, Day}
 use Rattle.book.specs.declared.header.Header.{Header}
 use Rattle.book.specs.Books.{opening, event_in}
-use Rattle.book.specs.Events.{asked}
-use Rattle.replay.specs.Told.{Told, plain}
+use Rattle.book.specs.Events.{code_and_operands}
+use Rattle.replay.specs.Faults.{RefusedEvent, without_level}
 
 -- the call that a code asks for with these operands
 abbrev pub call_of : Code → List ℕ → Call
@@ -47,13 +47,13 @@ asks (Ok x) = a_call (call_of x.0 x.1)
 
 abbrev pub next_by : Result (ℕ × List ℕ) ℕ → Next
 next_by (Err n) = nothing n
-next_by (Ok event) = asks (asked event.0 event.1)
+next_by (Ok event) = asks (code_and_operands event.0 event.1)
 
 -- what comes next in a session with a book of these bytes that has done i events
 abbrev pub next : List ℕ → ℕ → Next
 next b i = next_by (event_at b i)
 
 -- What refuses the end of a session that has done some events, by what opening the book says. 49: an event is left
-abbrev pub finishing : Result Header ℕ → ℕ → Option Told
-finishing (Err n) done = Some (plain 0 n)
-finishing (Ok header) done = if nat_lt done header.events then Some (plain 0 49) else None
+abbrev pub finishing : Result Header ℕ → ℕ → Option RefusedEvent
+finishing (Err n) done = Some (without_level 0 n)
+finishing (Ok header) done = if nat_lt done header.events then Some (without_level 0 49) else None

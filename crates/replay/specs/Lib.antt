@@ -1,8 +1,8 @@
 pub mod Limits
-pub mod Told
+pub mod Faults
 pub mod Events
 pub mod Turns
 pub mod Steps
 pub mod Whole
-pub mod Came
+pub mod Replayed
 pub mod Quiet

@@ -1,12 +1,12 @@
 // The next event of a book, and the call that it asks for.
 ghost use Rattle.std.specs.Prelude.{◌≡◌, ◌<◌, ◌+◌, ◌*◌, IfOk, OnOk};
-ghost use Rattle.book.specs.Books.{count_in, opening};
+ghost use Rattle.book.specs.Books.{event_count, opening};
 ghost use Rattle.book.specs.Limits.{most_events};
 ghost use Rattle.book.specs.Places.{further};
-ghost use Rattle.calls.specs.Values.{called};
+ghost use Rattle.calls.specs.Values.{call_meant};
 ghost use Rattle.replay.specs.Events.{call_of, event_at, finishing};
-ghost use Rattle.replay.specs.Told.{told_of};
-ghost use Rattle.replay.specs.Turns.{told_event, unmoved};
+ghost use Rattle.replay.specs.Faults.{refused_event_in};
+ghost use Rattle.replay.specs.Turns.{event_or_refused, refused_in_place};
 
 use crate::fault::Fault;
 use book::{Book, BookReason, Code, Event, HEADER, RECORD};
@@ -16,9 +16,9 @@ use calls::Call;
 // is left.
 #[tactic(auto, unfolding(crate::specs::Events::event_at))]
 pub(crate) fn next_event(book: &[u8], done: u16) -> Result<Event<'_>, Fault>
-    ensures is { told_event result ≡ unmoved (event_at book.now done) }
+    ensures is { event_or_refused result ≡ refused_in_place (event_at book.now done) }
     ensures few { OnOk result (done < most_events) }
-    ensures place { IfOk result (λ event. event.bytes.ref_ptr ≡ further book.entry.ref_ptr (HEADER + count_in book.now + RECORD * done)) }
+    ensures place { IfOk result (λ event. event.bytes.ref_ptr ≡ further book.entry.ref_ptr (HEADER + event_count book.now + RECORD * done)) }
 {
     let book = Book::open(book)?;
     let event = book
@@ -29,7 +29,7 @@ pub(crate) fn next_event(book: &[u8], done: u16) -> Result<Event<'_>, Fault>
 
 // Refused as opening, or because an event is left after so many.
 pub(crate) fn none_left(book: &[u8], done: u16) -> Result<(), Fault>
-    ensures { told_of result ≡ finishing (opening book.now) done }
+    ensures { refused_event_in result ≡ finishing (opening book.now) done }
 {
     let book = Book::open(book)?;
     if done < book.header.events {
@@ -40,7 +40,7 @@ pub(crate) fn none_left(book: &[u8], done: u16) -> Result<(), Fault>
 
 // The call that a code asks for.
 pub(crate) fn call_of(code: Code, operands: [u16; 3]) -> Call
-    ensures { called result ≡ call_of code operands }
+    ensures { call_meant result ≡ call_of code operands }
 {
     let [a, b, c] = operands;
     match code {

@@ -1,5 +1,5 @@
 ghost use Rattle.std.specs.Prelude.{◌≡◌};
-ghost use Rattle.replay.specs.Told.{of_book, of_office, number_of, level_of};
+ghost use Rattle.replay.specs.Faults.{fault_of_book, fault_of_office, cause_number, cause_level};
 
 use book::BookReason;
 use lending::Refusal;
@@ -20,7 +20,7 @@ pub struct Fault {
 
 // The book's refusal, as long as no event is named.
 impl From<BookReason> for Fault {
-    ghost from_gives = { λ reason fault. fault ≡ of_book reason };
+    ghost from_gives = { λ reason fault. fault ≡ fault_of_book reason };
 
     fn from(reason: BookReason) -> Fault {
         Fault {
@@ -32,7 +32,7 @@ impl From<BookReason> for Fault {
 
 // The office's refusal, whole, as long as no event is named.
 impl From<Refusal> for Fault {
-    ghost from_gives = { λ refusal fault. fault ≡ of_office refusal };
+    ghost from_gives = { λ refusal fault. fault ≡ fault_of_office refusal };
 
     fn from(refusal: Refusal) -> Fault {
         Fault {
@@ -45,7 +45,7 @@ impl From<Refusal> for Fault {
 impl Fault {
     // The number of its refusal.
     pub fn number(self) -> u8
-        ensures { result ≡ number_of self.cause }
+        ensures { result ≡ cause_number self.cause }
     {
         match self.cause {
             Cause::Book(reason) => reason.number(),
@@ -55,7 +55,7 @@ impl Fault {
 
     // The level of its refusal, if an office refused.
     pub fn level(self) -> Option<u8>
-        ensures { result ≡ level_of self.cause }
+        ensures { result ≡ cause_level self.cause }
     {
         match self.cause {
             Cause::Book(_) => None,

@@ -1,10 +1,10 @@
 ghost use Rattle.std.specs.Prelude.{◌≡◌, ◌<◌, ◌≤◌, ◌+◌, ◌*◌, ◌^◌, true, false, is_ok};
 ghost use Rattle.office.specs.Lawful.{unused};
-ghost use Rattle.book.specs.Events.{asked};
-ghost use Rattle.calls.specs.Listed.{all_closed};
+ghost use Rattle.book.specs.Events.{code_and_operands};
+ghost use Rattle.calls.specs.Lists.{all_closed};
 ghost use Rattle.replay.specs.Events.{asks};
 ghost use Rattle.replay.specs.Limits.{most_closed};
-ghost use Rattle.replay.specs.Turns.{Comes, kept};
+ghost use Rattle.replay.specs.Turns.{Comes, tallies_kept};
 ghost use Rattle.replay.specs.Quiet.{quiet};
 
 use crate::event::{call_of, next_event, none_left};
@@ -87,10 +87,10 @@ impl Reading {
 // Makes the call that an event asks for, and answers the tallies with what it closed. A fault names no event.
 fn make_event<O: Office>(office: &mut O, event: Event, tallies: Tallies) -> Result<Tallies, Fault>
     requires { all_closed tallies < 2 ^ 63 }
-    ensures comes { Comes O.Kind.Share.kind (asks (asked event.entry.code event.entry.bytes.now)) 0 (O.Office.meaning office.old) tallies result (kept tallies result) (O.Office.meaning office.new) }
-    ensures few { all_closed (kept tallies result) ≤ all_closed tallies + most_closed }
+    ensures comes { Comes O.Kind.Share.kind (asks (code_and_operands event.entry.code event.entry.bytes.now)) 0 (O.Office.meaning office.old) tallies result (tallies_kept tallies result) (O.Office.meaning office.new) }
+    ensures few { all_closed (tallies_kept tallies result) ≤ all_closed tallies + most_closed }
     ensures same { is_ok result ≡ false → office.new ≡ office.old }
-    ensures idle { quiet O.Kind.Share.kind (O.Office.meaning office.old) (asks (asked event.entry.code event.entry.bytes.now)) ≡ true → office.new ≡ office.old }
+    ensures idle { quiet O.Kind.Share.kind (O.Office.meaning office.old) (asks (code_and_operands event.entry.code event.entry.bytes.now)) ≡ true → office.new ≡ office.old }
     ensures unused { unused (O.Office.rows office.new) ≡ unused (O.Office.rows office.old) }
     ensures layers { O.Office.layers office.new ≡ O.Office.layers office.old }
     ensures lent { O.Office.lent office.new ≡ O.Office.lent office.old }

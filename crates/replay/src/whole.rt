@@ -2,11 +2,11 @@ ghost use Rattle.std.specs.Prelude.{◌≡◌, ◌≤◌, ◌+◌, None, IsOk, I
 ghost use Rattle.lending.specs.Layers.{Follow};
 ghost use Rattle.lending.specs.Promise.{LendingConserved};
 ghost use Rattle.office.specs.Lawful.{unused};
-ghost use Rattle.book.specs.Books.{opening, count_in};
-ghost use Rattle.calls.specs.Listed.{SomeOffice};
-ghost use Rattle.replay.specs.Told.{told_of};
-ghost use Rattle.replay.specs.Whole.{Replay, RunConserved, Opens, unopened};
-ghost use Rattle.replay.specs.Came.{Replayed, OneReplay};
+ghost use Rattle.book.specs.Books.{opening, event_count};
+ghost use Rattle.calls.specs.Lists.{SomeOffice};
+ghost use Rattle.replay.specs.Faults.{refused_event_in};
+ghost use Rattle.replay.specs.Whole.{Replay, RunConserved, Opens, opening_refused};
+ghost use Rattle.replay.specs.Replayed.{Replayed, OneReplay};
 ghost use Rattle.replay.specs.Quiet.{AllQuiet};
 
 use crate::fault::Fault;
@@ -24,17 +24,17 @@ pub fn replay<O: Office>(
     book: &[u8],
     faults: &mut Vec<Fault>,
 ) -> Result<Result<Finished, Fault>, AllocError>
-    ensures opens { IfOk result (λ outcome. told_of outcome ≡ unopened (opening book.now)) }
-    ensures replays { IfOk result (λ outcome. IfOk outcome (λ finished. Replayed O.Kind.Share.kind (SomeOffice O.Office.meaning O.Office.layers (O.Office.layers office.old)) book.now (O.Office.meaning office.old) (count_in book.now) (drop (vec_len faults.old) faults.new.items) finished.closed (O.Office.meaning office.new))) }
-    ensures runs { ((o : O) → Follow (O.Office.layers o) (O.Office.meaning o)) → IfOk result (λ outcome. IfOk outcome (λ finished. Replay O.Kind.Share.kind (O.Office.layers office.old) book.now (O.Office.meaning office.old) (count_in book.now) (drop (vec_len faults.old) faults.new.items) finished.closed (O.Office.meaning office.new))) }
-    ensures once { ((o : O) → Follow (O.Office.layers o) (O.Office.meaning o)) → OneReplay O.Kind.Share.kind (SomeOffice O.Office.meaning O.Office.layers (O.Office.layers office.old)) book.now (O.Office.meaning office.old) (count_in book.now) }
-    ensures conserved { RunConserved O.Kind.Share.kind (O.Office.layers office.old) book.now (O.Office.meaning office.old) (count_in book.now) }
+    ensures opens { IfOk result (λ outcome. refused_event_in outcome ≡ opening_refused (opening book.now)) }
+    ensures replays { IfOk result (λ outcome. IfOk outcome (λ finished. Replayed O.Kind.Share.kind (SomeOffice O.Office.meaning O.Office.layers (O.Office.layers office.old)) book.now (O.Office.meaning office.old) (event_count book.now) (drop (vec_len faults.old) faults.new.items) finished.closed (O.Office.meaning office.new))) }
+    ensures runs { ((o : O) → Follow (O.Office.layers o) (O.Office.meaning o)) → IfOk result (λ outcome. IfOk outcome (λ finished. Replay O.Kind.Share.kind (O.Office.layers office.old) book.now (O.Office.meaning office.old) (event_count book.now) (drop (vec_len faults.old) faults.new.items) finished.closed (O.Office.meaning office.new))) }
+    ensures once { ((o : O) → Follow (O.Office.layers o) (O.Office.meaning o)) → OneReplay O.Kind.Share.kind (SomeOffice O.Office.meaning O.Office.layers (O.Office.layers office.old)) book.now (O.Office.meaning office.old) (event_count book.now) }
+    ensures conserved { RunConserved O.Kind.Share.kind (O.Office.layers office.old) book.now (O.Office.meaning office.old) (event_count book.now) }
     ensures kept { take (vec_len faults.old) faults.new.items ≡ faults.old.items }
     ensures same { IfOk result (λ outcome. OnErr outcome ((office.new ≡ office.old) × (faults.new ≡ faults.old))) }
     ensures no_memory { OnErr result ((office.new ≡ office.old) × (faults.new.items ≡ faults.old.items) × (vec_capacity faults.new ≡ vec_capacity faults.old)) }
-    ensures room { vec_len faults.old + count_in book.now ≤ vec_capacity faults.old → IsOk result }
-    ensures needed { OnErr result (unopened (opening book.now) ≡ None) }
-    ensures idle { AllQuiet O.Kind.Share.kind (O.Office.meaning office.old) book.now (count_in book.now) → office.new ≡ office.old }
+    ensures room { vec_len faults.old + event_count book.now ≤ vec_capacity faults.old → IsOk result }
+    ensures needed { OnErr result (opening_refused (opening book.now) ≡ None) }
+    ensures idle { AllQuiet O.Kind.Share.kind (O.Office.meaning office.old) book.now (event_count book.now) → office.new ≡ office.old }
     ensures unused { unused (O.Office.rows office.new) ≡ unused (O.Office.rows office.old) }
     ensures layers { O.Office.layers office.new ≡ O.Office.layers office.old }
     ensures lent { O.Office.lent office.new ≡ O.Office.lent office.old }
@@ -51,14 +51,14 @@ fn read_book<O: Office>(
     book: &[u8],
     faults: &mut Vec<Fault>,
 ) -> Result<Result<Finished, Fault>, AllocError>
-    ensures opens { IfOk result (λ outcome. told_of outcome ≡ unopened (opening book.now)) }
-    ensures replays { IfOk result (λ outcome. IfOk outcome (λ finished. Replayed O.Kind.Share.kind (SomeOffice O.Office.meaning O.Office.layers (O.Office.layers office.old)) book.now (O.Office.meaning office.old) (count_in book.now) (drop (vec_len faults.old) faults.new.items) finished.closed (O.Office.meaning office.new))) }
+    ensures opens { IfOk result (λ outcome. refused_event_in outcome ≡ opening_refused (opening book.now)) }
+    ensures replays { IfOk result (λ outcome. IfOk outcome (λ finished. Replayed O.Kind.Share.kind (SomeOffice O.Office.meaning O.Office.layers (O.Office.layers office.old)) book.now (O.Office.meaning office.old) (event_count book.now) (drop (vec_len faults.old) faults.new.items) finished.closed (O.Office.meaning office.new))) }
     ensures kept { take (vec_len faults.old) faults.new.items ≡ faults.old.items }
     ensures same { IfOk result (λ outcome. OnErr outcome ((office.new ≡ office.old) × (faults.new ≡ faults.old))) }
     ensures no_memory { OnErr result ((office.new ≡ office.old) × (faults.new.items ≡ faults.old.items) × (vec_capacity faults.new ≡ vec_capacity faults.old)) }
-    ensures room { vec_len faults.old + count_in book.now ≤ vec_capacity faults.old → IsOk result }
-    ensures needed { OnErr result (unopened (opening book.now) ≡ None) }
-    ensures idle { AllQuiet O.Kind.Share.kind (O.Office.meaning office.old) book.now (count_in book.now) → office.new ≡ office.old }
+    ensures room { vec_len faults.old + event_count book.now ≤ vec_capacity faults.old → IsOk result }
+    ensures needed { OnErr result (opening_refused (opening book.now) ≡ None) }
+    ensures idle { AllQuiet O.Kind.Share.kind (O.Office.meaning office.old) book.now (event_count book.now) → office.new ≡ office.old }
     ensures unused { unused (O.Office.rows office.new) ≡ unused (O.Office.rows office.old) }
     ensures layers { O.Office.layers office.new ≡ O.Office.layers office.old }
     ensures lent { O.Office.lent office.new ≡ O.Office.lent office.old }
@@ -78,9 +78,9 @@ fn read_book<O: Office>(
 // How many events a book has, if it opens.
 #[tactic(auto, using(crate::proofs::Running::header_counts))]
 fn count_events(book: &[u8]) -> Result<u16, Fault>
-    ensures refused { told_of result ≡ unopened (opening book.now) }
+    ensures refused { refused_event_in result ≡ opening_refused (opening book.now) }
     ensures opens { IfOk result (λ events. Opens (opening book.now) events) }
-    ensures counts { IfOk result (λ events. events ≡ count_in book.now) }
+    ensures counts { IfOk result (λ events. events ≡ event_count book.now) }
 {
     let book = Book::open(book)?;
     Ok(book.header.events)
@@ -95,7 +95,7 @@ fn read_events<O: Office>(
     faults: &mut Vec<Fault>,
 ) -> Reading
     requires opens { Opens (opening book.now) events }
-    requires counted { events ≡ count_in book.now }
+    requires counted { events ≡ event_count book.now }
     requires room { vec_len faults.old + events ≤ vec_capacity faults.old }
     ensures replays { Replayed O.Kind.Share.kind (SomeOffice O.Office.meaning O.Office.layers (O.Office.layers office.old)) book.now (O.Office.meaning office.old) events (drop (vec_len faults.old) faults.new.items) result.tallies (O.Office.meaning office.new) }
     ensures kept { take (vec_len faults.old) faults.new.items ≡ faults.old.items }

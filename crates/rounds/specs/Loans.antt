@@ -16,7 +16,7 @@ module _ {S : Type 0} (K : Kind S) where
   left_of (suc n) left = elim (K.halve left) [ None ↦ left | Some h ↦ left_of n h.0 ]
 
   -- A share lent to n borrowers in turn.
-  pub record Lent (n : ℕ) (share : S) (out : SharedOut S) : Type 0 where
+  pub record SharesLent (n : ℕ) (share : S) (out : SharedOut S) : Type 0 where
     pub loans : vec_items out.loans ≡ loans_of n share
     pub left : out.left ≡ left_of n share
 

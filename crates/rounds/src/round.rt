@@ -1,6 +1,6 @@
 ghost use Rattle.std.specs.Prelude.{◌≡◌, IfOk, Some, vec_items};
 ghost use Rattle.shares.specs.Joins.{JoinTo, together};
-ghost use Rattle.rounds.specs.Loans.{Lent, all_shares};
+ghost use Rattle.rounds.specs.Loans.{SharesLent, all_shares};
 
 use crate::loan::{Loan, Round, SharedOut};
 use shares::{Share, join_all};
@@ -10,7 +10,7 @@ use std::iter::once;
 // Lends a whole resource to so many borrowers, each of whom gets half of what the house still has, until that doesn't halve
 // any more. Then takes every share back, the first loan first.
 pub fn lend_and_return<S: Share>(alloc: Global, borrowers: usize) -> Result<Round<S>, AllocError>
-    ensures lent { IfOk result (λ x. Lent S.kind borrowers S.kind.whole x.out) }
+    ensures lent { IfOk result (λ x. SharesLent S.kind borrowers S.kind.whole x.out) }
     ensures joins { IfOk result (λ x. JoinTo S.kind (all_shares x.out) S.kind.whole) }
     ensures back { IfOk result (λ x. x.back ≡ S.kind.whole) }
 {
@@ -21,7 +21,7 @@ pub fn lend_and_return<S: Share>(alloc: Global, borrowers: usize) -> Result<Roun
 
 // Lends from one share to so many borrowers, as long as what is left halves.
 fn lend<S: Share>(alloc: Global, share: S, borrowers: usize) -> Result<SharedOut<S>, AllocError>
-    ensures lent { IfOk result (λ out. Lent S.kind borrowers share out) }
+    ensures lent { IfOk result (λ out. SharesLent S.kind borrowers share out) }
     ensures joins { IfOk result (λ out. JoinTo S.kind (all_shares out) share) }
     ensures sum { IfOk result (λ out. together S.kind (all_shares out) ≡ Some share) }
 {

@@ -1,6 +1,6 @@
 ghost use Rattle.std.specs.Prelude.{◌≡◌, true};
 ghost use Rattle.counting.specs.Limits.{within};
-ghost use Rattle.counting.specs.Counts.{counting_of, counted, plus, less, counting_kind};
+ghost use Rattle.counting.specs.Counts.{counting_of, counting_if_within, plus, less, counting_kind};
 ghost use Rattle.counting.specs.KindLaws.{counting_laws, equals};
 
 use crate::counting::Counting;
@@ -45,7 +45,7 @@ fn of_permission(held: Permission) -> Counting
 
 // The share with a permission, or None where that is beyond the limits.
 fn counted(held: Permission) -> Option<Counting>
-    ensures { result ≡ counted held }
+    ensures { result ≡ counting_if_within held }
 {
     if within(held) {
         Some(of_permission(held))

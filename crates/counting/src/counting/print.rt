@@ -1,6 +1,6 @@
 ghost use Rattle.std.specs.Prelude.{◌≡◌, [], ◌∷◌};
 ghost use Rattle.shares.specs.Text.{in_front};
-ghost use Rattle.counting.specs.Counts.{text as permission_text};
+ghost use Rattle.counting.specs.Counts.{permission_text as permission_text};
 ghost use Rattle.counting.specs.Texts;
 ghost use Rattle.counting.specs.Texts.{tells};
 

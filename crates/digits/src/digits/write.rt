@@ -1,5 +1,5 @@
 ghost use Rattle.std.specs.Prelude.{◌≡◌, ◌≤◌, length, decimal};
-ghost use Rattle.digits.specs.Shown.{shown};
+ghost use Rattle.digits.specs.Digits.{digits_of};
 
 use crate::digits::Digits;
 use itoa::Buffer;
@@ -7,7 +7,7 @@ use itoa::Buffer;
 impl Digits {
     // The digits of `n`, without leading zeros.
     pub fn of(n: u32) -> Digits
-        ensures { shown result ≡ decimal n }
+        ensures { digits_of result ≡ decimal n }
     {
         let mut buffer = Buffer::new();
         let text = buffer.format(n).as_bytes();
@@ -19,7 +19,7 @@ impl Digits {
 
     // The bytes of the digits.
     pub fn as_slice(&self) -> &[u8]
-        ensures is { result.now ≡ shown self.now }
+        ensures is { result.now ≡ digits_of self.now }
         ensures most { length result.now ≤ 10 }
     {
         &self.bytes[0..self.count]

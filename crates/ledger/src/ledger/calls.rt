@@ -37,15 +37,15 @@ impl<'a, S: Share> Ledger<'a, S> {
 impl<'a, S: Share> Office for Ledger<'a, S> {
     ghost use Rattle.std.specs.Prelude.{[]};
     ghost use Rattle.ledger.specs.Lawful.{ledger_lawful};
-    ghost use Rattle.ledger.specs.Means.{means, rows_in, lent_to};
+    ghost use Rattle.ledger.specs.Means.{means, rows_of, loan_of};
 
     type Kind = S;
 
     ghost meaning = { means };
 
-    ghost rows = { rows_in };
+    ghost rows = { rows_of };
 
-    ghost lent = { lent_to };
+    ghost lent = { loan_of };
 
     ghost layers = { λ ledger. [] };
 

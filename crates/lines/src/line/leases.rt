@@ -3,7 +3,7 @@ ghost use Rattle.std.specs.Option.{ok_or};
 ghost use Rattle.arrayvec.specs.ArrayVec.{array_vec_len};
 ghost use Rattle.lending.specs.Promise.{LendingConserved};
 ghost use Rattle.lines.specs.declared.reason.LineReason.TheVariants.{NoSuchPosition};
-ghost use Rattle.lines.specs.Answers.{told_line, answer_of, space_after};
+ghost use Rattle.lines.specs.Answers.{line_written, line_answer, space_after};
 ghost use Rattle.lines.specs.Lines.{letter, writes, lease_text, line_at, LinesAreShort, LettersTell};
 
 use super::{Line, put, write_bytes, write_field};
@@ -21,7 +21,7 @@ pub fn lease_line<O: Office>(
 ) -> Result<usize, LineReason>
 where
     O::Kind: Printed,
-    ensures answers { told_line result ≡ answer_of (line_at O.Kind.Share.kind O.Kind.Printed.text (O.Office.meaning office.now).core.roll position) space.old }
+    ensures answers { line_written result ≡ line_answer (line_at O.Kind.Share.kind O.Kind.Printed.text (O.Office.meaning office.now).core.roll position) space.old }
     ensures leaves { space.new ≡ space_after (line_at O.Kind.Share.kind O.Kind.Printed.text (O.Office.meaning office.now).core.roll position) space.old }
     ensures short { LinesAreShort O.Kind.Share.kind O.Kind.Printed.text (O.Office.meaning office.now) }
     ensures letters { LettersTell O.Kind.Share.kind (O.Office.meaning office.now) }

@@ -1,6 +1,6 @@
 ghost use Rattle.std.specs.Prelude.{◌≡◌, ◌+◌, ◌≤◌, [], ◌++◌, length, Some};
 ghost use Rattle.arrayvec.specs.ArrayVec.{array_vec_len};
-ghost use Rattle.lines.specs.Answers.{told_line, answer_of, space_after};
+ghost use Rattle.lines.specs.Answers.{line_written, line_answer, space_after};
 ghost use Rattle.lines.specs.Lines.{refusal_line, level_text};
 
 use super::{Line, put, write_field, write_number};
@@ -13,7 +13,7 @@ pub fn refusal_line(
     level: Option<u8>,
     space: &mut [u8],
 ) -> Result<usize, LineReason>
-    ensures answers { told_line result ≡ answer_of (Some (refusal_line event number level)) space.old }
+    ensures answers { line_written result ≡ line_answer (Some (refusal_line event number level)) space.old }
     ensures leaves { space.new ≡ space_after (Some (refusal_line event number level)) space.old }
     ensures short { length (refusal_line event number level) ≤ 219 }
 {

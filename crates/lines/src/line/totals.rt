@@ -1,6 +1,6 @@
 ghost use Rattle.std.specs.Prelude.{◌≡◌, ◌≤◌, [], length, Some};
 ghost use Rattle.arrayvec.specs.ArrayVec.{array_vec_len};
-ghost use Rattle.lines.specs.Answers.{told_line, answer_of, space_after};
+ghost use Rattle.lines.specs.Answers.{line_written, line_answer, space_after};
 ghost use Rattle.lines.specs.Lines.{total_line};
 
 use super::{Line, put, write_field, write_number};
@@ -25,7 +25,7 @@ pub struct Totals {
 
 // Writes the line of the totals.
 pub fn total_line(totals: Totals, space: &mut [u8]) -> Result<usize, LineReason>
-    ensures answers { told_line result ≡ answer_of (Some (total_line totals)) space.old }
+    ensures answers { line_written result ≡ line_answer (Some (total_line totals)) space.old }
     ensures leaves { space.new ≡ space_after (Some (total_line totals)) space.old }
     ensures short { length (total_line totals) ≤ 219 }
 {

@@ -3,8 +3,8 @@ use Rattle.std.proofs.lemmas.List.{take_more, take_all, drop_more, drop_all}
 use Rattle.lending.specs.Perform.{perform}
 use Rattle.lending.specs.Idle.{idle}
 use Rattle.calls.specs.declared.call.Call.TheVariants.{Open}
-use Rattle.calls.specs.Values.{called, answered}
-use Rattle.calls.specs.Listed.{SomeOffice, TooLarge, counted}
+use Rattle.calls.specs.Values.{call_meant, answer_meant}
+use Rattle.calls.specs.Lists.{SomeOffice, TooLarge, tallies_with}
 use Rattle.calls.proofs.Jobs.{none_so_far, one_so_far, stopped, all_made, ok_unrefused}
 use Rattle.calls.proofs.Making.{few_closed, few_fit}
 use Rattle.calls.proofs.job.make_until_refused.Goals as goal
@@ -25,11 +25,11 @@ unwrap-tallies-requires g c =
     let calls = c.args.calls.now in
     let i = c.loop-call.call-index in
     let call = get_or calls i (Open 0 0) in
-    let a = answered (Ok c.in-Ok.answer) in
+    let a = answer_meant (Ok c.in-Ok.answer) in
     let so = rw (drop_more calls i (Open 0 0) c.loop-call-test.true) at c.loop-call.invariant.so_far in
     let next = one_so_far K g.O.Office.meaning g.O.Office.layers c.args.office.now c.make.ensures.always calls i (take i calls) call (drop (i + 1) calls) c.loop-call.tallies c.loop-call.office c.make.new.office so c.loop-call.invariant.layers (c.make.ensures.layers ∙ c.loop-call.invariant.layers) a c.in-Ok.ensures.does (ok_unrefused c.in-Ok.answer) in
     let few = few_closed K (SomeOffice g.O.Office.meaning g.O.Office.layers (g.O.Office.layers c.args.office.now)) (g.O.Office.meaning c.args.office.now) (g.O.Office.meaning c.make.new.office) _ _ (g.O.Office.lawful c.args.office.now) (g.O.Office.lawful c.make.new.office) _ _ next.made in
-    subst IsSome (sym (few_fit c.counted.result (counted c.loop-call.tallies (called call) a) c.counted.ensures (omega arith))) refl
+    subst IsSome (sym (few_fit c.counted.result (tallies_with c.loop-call.tallies (call_meant call) a) c.counted.ensures (omega arith))) refl
 
 pub returns-in-Err-clause-until : goal.returns-in-Err-clause-until
 returns-in-Err-clause-until g c =
@@ -42,7 +42,7 @@ returns-in-Err-clause-until g c =
 
 pub returns-in-Err-clause-idle : goal.returns-in-Err-clause-idle
 returns-in-Err-clause-idle g c all = (let stays = c.loop-call.invariant.idle all in
-    c.make.ensures.idle (subst (λ (o : g.row.O.Denot). idle (perform g.O.Kind.Share.kind (g.O.Office.meaning o) (called (get_or c.args.calls.now c.loop-call.call-index (Open 0 0)))) ≡ true) (sym stays) (all c.loop-call.call-index (Open 0 0) c.loop-call-test.true)) ∙ stays)
+    c.make.ensures.idle (subst (λ (o : g.row.O.Denot). idle (perform g.O.Kind.Share.kind (g.O.Office.meaning o) (call_meant (get_or c.args.calls.now c.loop-call.call-index (Open 0 0)))) ≡ true) (sym stays) (all c.loop-call.call-index (Open 0 0) c.loop-call-test.true)) ∙ stays)
 
 pub loop-call-preserved : goal.loop-call-preserved
 loop-call-preserved g c =
@@ -50,8 +50,8 @@ loop-call-preserved g c =
     let calls = c.args.calls.now in
     let i = c.loop-call.call-index in
     let call = get_or calls i (Open 0 0) in
-    let a = answered (Ok c.in-Ok.answer) in
-    let after = counted c.loop-call.tallies (called call) a in
+    let a = answer_meant (Ok c.in-Ok.answer) in
+    let after = tallies_with c.loop-call.tallies (call_meant call) a in
     let is : c.unwrap-tallies.result ≡ after = subst (λ r. MatchOption r (TooLarge after) (λ x. x ≡ after)) c.unwrap-tallies.ensures c.counted.ensures in
     let so = rw (drop_more calls i (Open 0 0) c.loop-call-test.true) at c.loop-call.invariant.so_far in
     let layers = c.make.ensures.layers ∙ c.loop-call.invariant.layers in
@@ -60,7 +60,7 @@ loop-call-preserved g c =
       many = omega arith;
       so_far = rw (take_more calls i (Open 0 0) c.loop-call-test.true, is) next;
       idle = λ all. (let stays = c.loop-call.invariant.idle all in
-          c.make.ensures.idle (subst (λ (o : g.row.O.Denot). idle (perform g.O.Kind.Share.kind (g.O.Office.meaning o) (called (get_or c.args.calls.now c.loop-call.call-index (Open 0 0)))) ≡ true) (sym stays) (all c.loop-call.call-index (Open 0 0) c.loop-call-test.true)) ∙ stays);
+          c.make.ensures.idle (subst (λ (o : g.row.O.Denot). idle (perform g.O.Kind.Share.kind (g.O.Office.meaning o) (call_meant (get_or c.args.calls.now c.loop-call.call-index (Open 0 0)))) ≡ true) (sym stays) (all c.loop-call.call-index (Open 0 0) c.loop-call-test.true)) ∙ stays);
       unused = c.make.ensures.unused ∙ c.loop-call.invariant.unused;
       layers = layers;
       lent = c.make.ensures.lent ∙ c.loop-call.invariant.lent;

@@ -1,8 +1,8 @@
 use Rattle.std.proofs.Common.{◌≡◌, arith, refl, sym, subst, get_or, ◌∙◌, IsSome, MatchOption}
 use Rattle.std.proofs.lemmas.List.{take_more, take_all}
 use Rattle.calls.specs.declared.call.Call.TheVariants.{Open}
-use Rattle.calls.specs.Values.{called, answered}
-use Rattle.calls.specs.Listed.{SomeOffice, TooLarge, counted}
+use Rattle.calls.specs.Values.{call_meant, answer_meant}
+use Rattle.calls.specs.Lists.{SomeOffice, TooLarge, tallies_with}
 use Rattle.std.proofs.Common.{true}
 use Rattle.lending.specs.Perform.{perform}
 use Rattle.lending.specs.Idle.{idle}
@@ -25,8 +25,8 @@ unwrap-tallies-requires g c =
     let s = g.O.Office.meaning c.args.office.now in
     let u = g.O.Office.meaning c.make-answer.new.office in
     let call = get_or c.args.calls.now c.loop-call.call-index (Open 0 0) in
-    let after = counted c.loop-call.tallies (called call) (answered c.make-answer.result) in
-    let made = one_more K (SomeOffice g.O.Office.meaning g.O.Office.layers (g.O.Office.layers c.args.office.now)) c.make-answer.ensures.always s (g.O.Office.meaning c.loop-call.office) u _ call (answered c.make-answer.result) c.loop-call.tallies c.loop-call.invariant.made c.make-answer.ensures.does (c.loop-call.office, refl, c.loop-call.invariant.layers) in
+    let after = tallies_with c.loop-call.tallies (call_meant call) (answer_meant c.make-answer.result) in
+    let made = one_more K (SomeOffice g.O.Office.meaning g.O.Office.layers (g.O.Office.layers c.args.office.now)) c.make-answer.ensures.always s (g.O.Office.meaning c.loop-call.office) u _ call (answer_meant c.make-answer.result) c.loop-call.tallies c.loop-call.invariant.made c.make-answer.ensures.does (c.loop-call.office, refl, c.loop-call.invariant.layers) in
     let few = few_closed K (SomeOffice g.O.Office.meaning g.O.Office.layers (g.O.Office.layers c.args.office.now)) s u _ _ (g.O.Office.lawful c.args.office.now) (g.O.Office.lawful c.make-answer.new.office) _ _ made in
     subst IsSome (sym (few_fit c.counted.result after c.counted.ensures (omega arith))) refl
 
@@ -36,14 +36,14 @@ loop-call-preserved g c =
     let s = g.O.Office.meaning c.args.office.now in
     let u = g.O.Office.meaning c.make-answer.new.office in
     let call = get_or c.args.calls.now c.loop-call.call-index (Open 0 0) in
-    let after = counted c.loop-call.tallies (called call) (answered c.make-answer.result) in
+    let after = tallies_with c.loop-call.tallies (call_meant call) (answer_meant c.make-answer.result) in
     let is : c.unwrap-tallies.result ≡ after = subst (λ r. MatchOption r (TooLarge after) (λ x. x ≡ after)) c.unwrap-tallies.ensures c.counted.ensures in
-    let made = one_more K (SomeOffice g.O.Office.meaning g.O.Office.layers (g.O.Office.layers c.args.office.now)) c.make-answer.ensures.always s (g.O.Office.meaning c.loop-call.office) u _ call (answered c.make-answer.result) c.loop-call.tallies c.loop-call.invariant.made c.make-answer.ensures.does (c.loop-call.office, refl, c.loop-call.invariant.layers) in
+    let made = one_more K (SomeOffice g.O.Office.meaning g.O.Office.layers (g.O.Office.layers c.args.office.now)) c.make-answer.ensures.always s (g.O.Office.meaning c.loop-call.office) u _ call (answer_meant c.make-answer.result) c.loop-call.tallies c.loop-call.invariant.made c.make-answer.ensures.does (c.loop-call.office, refl, c.loop-call.invariant.layers) in
     let layers = c.make-answer.ensures.layers ∙ c.loop-call.invariant.layers in
     record {
       idle = λ all.
           let stays = c.loop-call.invariant.idle all in
-          c.make-answer.ensures.idle (subst (λ (o : g.row.O.Denot). idle (perform K (g.O.Office.meaning o) (called call)) ≡ true) (sym stays) (all c.loop-call.call-index (Open 0 0) c.loop-call-test.true)) ∙ stays;
+          c.make-answer.ensures.idle (subst (λ (o : g.row.O.Denot). idle (perform K (g.O.Office.meaning o) (call_meant call)) ≡ true) (sym stays) (all c.loop-call.call-index (Open 0 0) c.loop-call-test.true)) ∙ stays;
       made = rw (take_more c.args.calls.now c.loop-call.call-index (Open 0 0) c.loop-call-test.true, is) made;
       unused = c.make-answer.ensures.unused ∙ c.loop-call.invariant.unused;
       layers = layers;

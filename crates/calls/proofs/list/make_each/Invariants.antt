@@ -1,6 +1,6 @@
 use Rattle.std.proofs.Common.{◌≡◌, take}
 use Rattle.office.specs.Lawful.{unused}
-use Rattle.calls.specs.Listed.{ListMade}
+use Rattle.calls.specs.Lists.{ListMade}
 use Rattle.calls.specs.Quiet.{AllIdle}
 use Rattle.calls.proofs.list.make_each.Given as goal
 

@@ -1,7 +1,7 @@
 use Rattle.std.proofs.Common.{◌≡◌, ℕ, List, [], ◌∷◌, length, reverse, refl, sym, ap, ◌∙◌, arith}
 use Rattle.std.proofs.lemmas.List.{reverse-append}
 use Rattle.lending.specs.Above.{yields}
-use Rattle.lending.specs.Told.{told}
+use Rattle.lending.specs.Answers.{done_or_refused}
 use Rattle.lending.proofs.Going.{objecting, yields_on, no_yields}
 use Rattle.desk.proofs.sweep.yield_down.Goals as goal
 
@@ -26,7 +26,7 @@ loop-number-preserved g c =
     let r : reverse c.loop-number.number-iterator.iter.rest.now ≡ n ∷ reverse rest = ap reverse c.in-Some.ensures.steps ∙ reverse-append rest (n ∷ []) in (
       λ u h.
           let v = c.loop-number.invariant.0 u h in
-          (objecting K t.objections v.0, yields_on K n (reverse rest) s t v.0 (told c.yield_lease.result) (ap (yields K s) (sym r) ∙ v.1) c.yield_lease.ensures.does, v.2),
+          (objecting K t.objections v.0, yields_on K n (reverse rest) s t v.0 (done_or_refused c.yield_lease.result) (ap (yields K s) (sym r) ∙ v.1) c.yield_lease.ensures.does, v.2),
       c.yield_lease.ensures.unused ∙ c.loop-number.invariant.1,
       c.yield_lease.ensures.layers ∙ c.loop-number.invariant.2,
       c.yield_lease.ensures.lent ∙ c.loop-number.invariant.3,

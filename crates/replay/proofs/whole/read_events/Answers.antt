@@ -1,9 +1,9 @@
 use Rattle.std.proofs.Common.{◌≡◌, ◌++◌, ◌∙◌, true, [], ◌∷◌, map, take, drop, ap, refl, sym, subst, arith, vec_len}
 use Rattle.std.proofs.lemmas.List.{take_all, drop_all, take-append-le, drop-append-le}
-use Rattle.calls.specs.Listed.{SomeOffice}
-use Rattle.replay.specs.Told.{told, told_of}
+use Rattle.calls.specs.Lists.{SomeOffice}
+use Rattle.replay.specs.Faults.{refused_event, refused_event_in}
 use Rattle.replay.specs.Events.{next}
-use Rattle.replay.specs.Whole.{listed}
+use Rattle.replay.specs.Whole.{one_or_none}
 use Rattle.replay.specs.Quiet.{quiet}
 use Rattle.replay.proofs.Running.{none_read, one_more, one_fault, no_fault}
 use Rattle.replay.proofs.whole.read_events.Goals as goal
@@ -27,7 +27,7 @@ pub loop-event-preserved : goal.loop-event-preserved
 loop-event-preserved g c =
     let inv = c.loop-event.invariant in
     let old = vec_len c.args.faults.now in
-    let grows : map told (drop old c.match-step.faults.items) ≡ map told (drop old c.loop-event.faults.items) ++ listed (told_of c.step.result) = elim c.match-step.branch [
+    let grows : map refused_event (drop old c.match-step.faults.items) ≡ map refused_event (drop old c.loop-event.faults.items) ++ one_or_none (refused_event_in c.step.result) = elim c.match-step.branch [
       | in-Err w ↦
           let pushed = rw w.unwrap.ensures at w.push.ensures.items in
           let more = ap (drop old) pushed ∙ drop-append-le old c.loop-event.faults.items (w.in-Err.fault ∷ []) (let k = inv.grows in omega arith) in

@@ -1,7 +1,7 @@
 use Rattle.std.proofs.Common.{◌≡◌, ◌+◌, ◌≤◌, take, drop, vec_len, vec_capacity}
 use Rattle.office.specs.Lawful.{unused}
-use Rattle.calls.specs.Listed.{SomeOffice}
-use Rattle.replay.specs.Came.{Replayed}
+use Rattle.calls.specs.Lists.{SomeOffice}
+use Rattle.replay.specs.Replayed.{Replayed}
 use Rattle.replay.specs.Quiet.{AllQuiet}
 use Rattle.replay.proofs.whole.read_events.Given as goal
 

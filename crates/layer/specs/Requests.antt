@@ -5,7 +5,7 @@ use Rattle.layer.specs.declared.rule.Request as code
 use Rattle.layer.specs.declared.rule.Request.TheVariants.{Open, Delegate, Assign}
 
 -- the request that a value is
-abbrev pub requested : code.Request → Request
-requested (Open resource holder) = opening resource holder
-requested (Delegate lender holder due) = delegating lender holder due
-requested (Assign lease holder) = assigning lease holder
+abbrev pub request_meant : code.Request → Request
+request_meant (Open resource holder) = opening resource holder
+request_meant (Delegate lender holder due) = delegating lender holder due
+request_meant (Assign lease holder) = assigning lease holder

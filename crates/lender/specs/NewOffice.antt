@@ -9,7 +9,7 @@ use Rattle.quota.specs.Means.{quota_objects}
 use Rattle.term.specs.Means.{term_objects}
 use Rattle.chain.specs.Means.{chain_objects}
 use Rattle.calls.specs.declared.call.Call.{Call}
-use Rattle.calls.specs.Played.{in_turn}
+use Rattle.calls.specs.Plays.{play_in_turn}
 
 module _ {S : Type 0} where
   -- the three layers with their numbers, the outermost first
@@ -21,5 +21,5 @@ module _ {S : Type 0} where
   new_office quota term chain rows = pile (layers quota term chain) (new_ledger (min most_rows rows))
 
   -- what a list of calls, made in its order, comes to at that new office
-  abbrev pub made : Kind S → (quota term chain rows : ℕ) → List Call → List (Moment S) × State S
-  made K quota term chain rows calls = in_turn K (layers quota term chain) (new_office quota term chain rows) calls
+  abbrev pub play_at_new : Kind S → (quota term chain rows : ℕ) → List Call → List (Moment S) × State S
+  play_at_new K quota term chain rows calls = play_in_turn K (layers quota term chain) (new_office quota term chain rows) calls

@@ -8,7 +8,7 @@ use Rattle.lending.specs.History.{Moment, Leads, EachCameTo, tally, none, one_if
 use Rattle.lending.specs.Promise.{Conserved}
 use Rattle.calls.specs.declared.call.Call.{Call}
 use Rattle.calls.specs.declared.list.Tallies.{Tallies}
-use Rattle.calls.specs.Values.{called}
+use Rattle.calls.specs.Values.{call_meant}
 
 -- how many leases were closed in all
 abbrev pub all_closed : Tallies → ℕ
@@ -20,8 +20,8 @@ TooLarge tallies = ((tallies.yielded < 2 ^ 64) × (tallies.merged < 2 ^ 64) × (
 
 module _ {S : Type 0} where
   -- the tallies with what one call more closed by its answer
-  abbrev pub counted : Tallies → office.Call → office.Answer S → Tallies
-  counted tallies c a =
+  abbrev pub tallies_with : Tallies → office.Call → office.Answer S → Tallies
+  tallies_with tallies c a =
       record {
         yielded = tallies.yielded + tally one_if_done none none none (closing c) a;
         merged = tallies.merged + tally none one_if_done none none (closing c) a;
@@ -30,10 +30,10 @@ module _ {S : Type 0} where
       }
 
   -- The calls, made in their order, led from s to t and closed what the tallies say, each in a state of which Of holds.
-  pub record Made (K : Kind S) (Of : State S → Type 0) (s : State S) (calls : List Call) (tallies : Tallies) (t : State S) : Type 0 where
+  pub record CallsMade (K : Kind S) (Of : State S → Type 0) (s : State S) (calls : List Call) (tallies : Tallies) (t : State S) : Type 0 where
     -- each call with the state that it came to and its answer, the last one first
     pub history : List (Moment S)
-    pub in_order : map (λ m. m.call) history ≡ reverse (map called calls)
+    pub in_order : map (λ m. m.call) history ≡ reverse (map call_meant calls)
     pub leads : Leads K s history t
     -- no call came to a state that the office can't have
     pub stood : EachCameTo Of history
@@ -56,4 +56,4 @@ SomeOffice {O} means layers ls s = (o : O) × (means o ≡ s) × (layers o ≡ l
 -- The calls, made in their order, led one office to the other and closed what the tallies say, each in a state that an office
 -- with these layers can have.
 abbrev pub ListMade : {O S : Type 0} → Kind S → (O → State S) → (O → Layers S) → O → List Call → Tallies → O → Type 0
-ListMade K means layers before calls tallies after = Made K (SomeOffice means layers (layers before)) (means before) calls tallies (means after)
+ListMade K means layers before calls tallies after = CallsMade K (SomeOffice means layers (layers before)) (means before) calls tallies (means after)

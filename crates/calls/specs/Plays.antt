@@ -7,22 +7,22 @@ use Rattle.lending.specs.Play.{play}
 use Rattle.lending.specs.History.{Moment, yielded, merged, recalled, lapsed}
 use Rattle.calls.specs.declared.call.Call.{Call}
 use Rattle.calls.specs.declared.list.Tallies.{Tallies}
-use Rattle.calls.specs.Values.{called}
+use Rattle.calls.specs.Values.{call_meant}
 
 module _ {S : Type 0} (K : Kind S) (layers : Layers S) (s : State S) (calls : List Call) where
   -- what the calls come to, made in their order: each with its answer, the last one first, and the state that they lead to
-  abbrev pub in_turn : List (Moment S) × State S
-  in_turn = play K layers s (reverse (map called calls))
+  abbrev pub play_in_turn : List (Moment S) × State S
+  play_in_turn = play K layers s (reverse (map call_meant calls))
 
   -- The calls were made in their order, each once, to an office with these layers that stood for s: it answered what the
   -- definitions answer, stands for the state that they lead to, and closed what those answers say.
-  pub record Played (tallies : Tallies) (t : State S) : Type 0 where
-    pub leaves : t ≡ in_turn.1
-    pub yields : tallies.yielded ≡ yielded in_turn.0
-    pub merges : tallies.merged ≡ merged in_turn.0
-    pub recalls : tallies.recalled ≡ recalled in_turn.0
-    pub lapses : tallies.lapsed ≡ lapsed in_turn.0
+  pub record CallsPlayed (tallies : Tallies) (t : State S) : Type 0 where
+    pub leaves : t ≡ play_in_turn.1
+    pub yields : tallies.yielded ≡ yielded play_in_turn.0
+    pub merges : tallies.merged ≡ merged play_in_turn.0
+    pub recalls : tallies.recalled ≡ recalled play_in_turn.0
+    pub lapses : tallies.lapsed ≡ lapsed play_in_turn.0
 
 -- Where the objections of every such office follow from its layers, the calls led one to the other as they are played.
 abbrev pub ListPlayed : {O S : Type 0} → Kind S → (O → State S) → (O → Layers S) → O → List Call → Tallies → O → Type 0
-ListPlayed {O} K means layers before calls tallies after = ((o : O) → Follow (layers o) (means o)) → Played K (layers before) (means before) calls tallies (means after)
+ListPlayed {O} K means layers before calls tallies after = ((o : O) → Follow (layers o) (means o)) → CallsPlayed K (layers before) (means before) calls tallies (means after)

@@ -6,15 +6,15 @@ use Rattle.lending.specs.Office.Request.{opening, delegating, assigning}
 use Rattle.lending.specs.Layers.{number_if, layered}
 
 -- while it is closed, to every open, with the number of a quota that is met
-abbrev pub shut : {S : Type 0} → Bool → List (Lease S) → ℕ → Request → Option ℕ
-shut closed roll today (opening resource holder) = number_if closed 21
-shut closed roll today (delegating lender holder due) = None
-shut closed roll today (assigning lease holder) = None
+abbrev pub fickle_objects : {S : Type 0} → Bool → List (Lease S) → ℕ → Request → Option ℕ
+fickle_objects closed roll today (opening resource holder) = number_if closed 21
+fickle_objects closed roll today (delegating lender holder due) = None
+fickle_objects closed roll today (assigning lease holder) = None
 
 -- whether it is closed after a call: each granted one flips it
 abbrev pub flip : Bool → Bool → Bool
 flip granted closed = cond granted (not closed) closed
 
 -- what it stands for over an office that stands for s: it is one deeper
-abbrev pub stands : {S : Type 0} → Bool → State S → State S
-stands closed s = layered (shut closed) s
+abbrev pub fickle_state : {S : Type 0} → Bool → State S → State S
+fickle_state closed s = layered (fickle_objects closed) s
