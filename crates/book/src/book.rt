@@ -7,13 +7,13 @@ use crate::limits::{EVENT, HEADER, MOST_EVENTS, RECORD};
 use crate::reason::BookReason;
 use kinds::KindOfShare;
 
-// A tenancy book that was opened: what its header says, and its two arrays, which are lent from its bytes.
+/// A tenancy book that was opened: what its header says, and its two arrays, which are lent from its bytes.
 #[derive(Clone, Copy, Debug, Drop)]
 pub struct Book<'a> {
     pub header: Header,
-    // a byte for each event
+    /// a byte for each event
     pub codes: &'a [u8],
-    // six bytes for each event
+    /// six bytes for each event
     pub records: &'a [u8],
     ghost few: { header.events ≤ most_events },
     ghost coded: { length codes.now ≡ header.events },
@@ -25,8 +25,8 @@ impl<'a> Book<'a> {
     ghost use Rattle.book.specs.Books.{opening, header_or_number, book_bytes, event_in, event_parts};
     ghost use Rattle.book.specs.Places.{further};
 
-    // Opens a book, or refuses its bytes by the first rule that they break. A book that opens is all of its bytes, and its two
-    // arrays are those very parts of them.
+    /// Opens a book, or refuses its bytes by the first rule that they break. A book that opens is all of its bytes, and its two
+    /// arrays are those very parts of them.
     pub fn open(bytes: &'a [u8]) -> Result<Book<'a>, BookReason>
         ensures is { header_or_number result ≡ opening bytes.now }
         ensures whole { IfOk result (λ book. book_bytes book ≡ bytes.now) }
@@ -63,7 +63,7 @@ impl<'a> Book<'a> {
         })
     }
 
-    // Event i of the book, from 0, if there are so many: its record is that very part of the book.
+    /// Event i of the book, from 0, if there are so many: its record is that very part of the book.
     #[tactic(auto, using(crate::proofs::Parts::event_at))]
     pub fn event(&self, i: usize) -> Option<Event<'a>>
         ensures is { event_parts result ≡ event_in (book_bytes self.now) i }

@@ -1,7 +1,7 @@
 ghost use Rattle.std.specs.Prelude.{◌≡◌, ◌≤◌};
 ghost use Rattle.book.specs.Codes.{code_of_byte, used};
 
-// What an event asks for, by its code.
+/// What an event asks for, by its code.
 #[derive(Clone, Copy, PartialEq, Eq, Debug, Drop)]
 pub enum Code {
     Open = 1,
@@ -14,7 +14,7 @@ pub enum Code {
 }
 
 impl Code {
-    // The code that a byte stands for, if it stands for one.
+    /// The code that a byte stands for, if it stands for one.
     pub fn of_byte(byte: u8) -> Option<Code>
         ensures { result ≡ code_of_byte byte }
     {
@@ -30,7 +30,7 @@ impl Code {
         }
     }
 
-    // How many of the three operands its call uses; they are the first.
+    /// How many of the three operands its call uses; they are the first.
     pub fn used(self) -> usize
         ensures is { result ≡ used self }
         ensures most { result ≤ 3 }

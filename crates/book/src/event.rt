@@ -4,11 +4,11 @@ ghost use Rattle.std.specs.List.{list_all};
 use crate::code::Code;
 use crate::reason::BookReason;
 
-// An event of a book: the byte of its code, and its record, which is that very part of the book.
+/// An event of a book: the byte of its code, and its record, which is that very part of the book.
 #[derive(Clone, Copy, Debug, Drop)]
 pub struct Event<'a> {
     pub code: u8,
-    // a slice and no array, since the library doesn't say of an array that it makes of a slice where the array stands
+    /// a slice and no array, since the library doesn't say of an array that it makes of a slice where the array stands
     pub bytes: &'a [u8],
     ghost six: { length bytes.now ≡ 6 },
 }
@@ -16,7 +16,7 @@ pub struct Event<'a> {
 impl Event<'_> {
     ghost use Rattle.book.specs.Events.{operands_of, code_and_operands, code_and_operands_of};
 
-    // The three operands of its record.
+    /// The three operands of its record.
     pub fn operands(&self) -> [u16; 3]
         ensures { result ≡ operands_of self.now.bytes.now }
     {
@@ -30,7 +30,7 @@ impl Event<'_> {
         ]
     }
 
-    // What it asks for, with its operands. Refused if no call has its code, or an operand that the call doesn't use is not 0.
+    /// What it asks for, with its operands. Refused if no call has its code, or an operand that the call doesn't use is not 0.
     pub fn asked(&self) -> Result<(Code, [u16; 3]), BookReason>
         ensures { code_and_operands_of result ≡ code_and_operands self.now.code self.now.bytes.now }
     {

@@ -3,7 +3,7 @@ ghost use Rattle.book.specs.Numbers.{book_reason_number};
 
 use thiserror::Error;
 
-// Why a book or an event of it was refused, with the number by which everybody knows the reason.
+/// Why a book or an event of it was refused, with the number by which everybody knows the reason.
 #[derive(Clone, Copy, PartialEq, Eq, Debug, Drop, Error)]
 pub enum BookReason {
     #[error("there are fewer than 8 bytes")]
@@ -27,7 +27,7 @@ pub enum BookReason {
 }
 
 impl BookReason {
-    // Its number.
+    /// Its number.
     pub fn number(self) -> u8
         ensures { result ≡ book_reason_number self }
     {

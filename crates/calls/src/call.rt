@@ -4,7 +4,7 @@ ghost use Rattle.calls.specs.Written.{call_text};
 use lending::Lease;
 use std::fmt;
 
-// A call to an office, as a value.
+/// A call to an office, as a value.
 #[derive(Clone, Copy, PartialEq, Eq, Debug, Drop)]
 pub enum Call {
     Open { resource: u16, holder: u16 },
@@ -53,7 +53,7 @@ impl fmt::Display for Call {
     }
 }
 
-// What an office answers to a call that it grants, or to a question.
+/// What an office answers to a call that it grants, or to a question.
 #[derive(PartialEq, Eq, Debug, Drop)]
 pub enum Answer<S> {
     Done,

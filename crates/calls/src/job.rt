@@ -15,15 +15,15 @@ use desk::Slip;
 use lending::{Refusal, lending_is_conserved};
 use office::Office;
 
-// What came of a job.
+/// What came of a job.
 #[derive(Clone, Copy, PartialEq, Eq, Debug, Drop)]
 pub struct Job {
-    // how many of its calls were made: the last of them was refused, or all were made
+    /// how many of its calls were made: the last of them was refused, or all were made
     pub made: usize,
     pub refusal: Option<Refusal>,
-    // what those calls closed
+    /// what those calls closed
     pub tallies: Tallies,
-    // how many leases the hand-in closed
+    /// how many leases the hand-in closed
     pub closed: usize,
 }
 
@@ -35,15 +35,13 @@ struct Stopped {
     tallies: Tallies,
 }
 
-// Draws a slip for a lease, makes some calls until one is refused, and hands the slip in, whether or not one was.
+/// Draws a slip for a lease, makes some calls until one is refused, and hands the slip in, whether or not one was.
 #[tactic(auto, using(crate::proofs::Jobs::job_done))]
 pub fn do_job<O: Office>(office: &mut O, lease: u16, calls: &[Call]) -> Job
-    ensures done { JobDone O.Kind.Share.kind O.Office.meaning O.Office.layers office.old lease calls.now result office.new }
-    ensures idle { AllIdle O.Kind.Share.kind (O.Office.meaning office.old) calls.now → idle (perform O.Kind.Share.kind (O.Office.meaning office.old) (hand_in lease)) ≡ true → office.new ≡ office.old }
-    ensures unused { unused (O.Office.rows office.new) ≡ unused (O.Office.rows office.old) }
-    ensures layers { O.Office.layers office.new ≡ O.Office.layers office.old }
-    ensures lent { O.Office.lent office.new ≡ O.Office.lent office.old }
-    ensures always { LendingConserved O.Kind.Share.kind }
+    ensures done { JobDone O.Kind.kind O.meaning O.layers office.old lease calls.now result office.new }
+    ensures idle { AllIdle O.Kind.kind (O.meaning office.old) calls.now → idle (perform O.Kind.kind (O.meaning office.old) (hand_in lease)) ≡ true → office.new ≡ office.old }
+    ensures keeps { Keeps O.rows O.loan O.layers office.old office.new }
+    ensures always { LendingConserved O.Kind.kind }
 {
     let slip = Slip::draw(lease);
     match make_until_refused(office, calls) {
@@ -71,12 +69,10 @@ pub fn do_job<O: Office>(office: &mut O, lease: u16, calls: &[Call]) -> Job
 // Makes some calls until one is refused. The loop is by itself so that a wrong call of it is refused where it stands, and not in
 // the proof of the loop.
 fn make_until_refused<O: Office>(office: &mut O, calls: &[Call]) -> Result<Tallies, Stopped>
-    ensures until { MatchResult result (λ tallies. Until O.Kind.Share.kind O.Office.meaning O.Office.layers office.old calls.now (length calls.now) None tallies office.new) (λ stopped. Until O.Kind.Share.kind O.Office.meaning O.Office.layers office.old calls.now stopped.made (Some stopped.refusal) stopped.tallies office.new) }
-    ensures idle { AllIdle O.Kind.Share.kind (O.Office.meaning office.old) calls.now → office.new ≡ office.old }
-    ensures unused { unused (O.Office.rows office.new) ≡ unused (O.Office.rows office.old) }
-    ensures layers { O.Office.layers office.new ≡ O.Office.layers office.old }
-    ensures lent { O.Office.lent office.new ≡ O.Office.lent office.old }
-    ensures always { LendingConserved O.Kind.Share.kind }
+    ensures until { MatchResult result (λ tallies. Until O.Kind.kind O.meaning O.layers office.old calls.now (length calls.now) None tallies office.new) (λ stopped. Until O.Kind.kind O.meaning O.layers office.old calls.now stopped.made (Some stopped.refusal) stopped.tallies office.new) }
+    ensures idle { AllIdle O.Kind.kind (O.meaning office.old) calls.now → office.new ≡ office.old }
+    ensures keeps { Keeps O.rows O.loan O.layers office.old office.new }
+    ensures always { LendingConserved O.Kind.kind }
 {
     lending_is_conserved::<O::Kind>();
     let mut tallies = Tallies::default();

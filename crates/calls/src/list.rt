@@ -14,7 +14,7 @@ use lending::{Refusal, calls_leave_no_choice, lending_is_conserved};
 use office::Office;
 use shares::Share;
 
-// How many leases some calls closed: granted yields, granted merges, recalls with hand-ins, and days.
+/// How many leases some calls closed: granted yields, granted merges, recalls with hand-ins, and days.
 #[derive(Clone, Copy, PartialEq, Eq, Debug, Default, Drop)]
 pub struct Tallies {
     pub yielded: usize,
@@ -24,7 +24,7 @@ pub struct Tallies {
 }
 
 impl Tallies {
-    // The tallies with what one call more closed, by its answer; none where a count would be too large.
+    /// The tallies with what one call more closed, by its answer; none where a count would be too large.
     pub fn counted<S: Share>(
         self,
         call: Call,
@@ -54,16 +54,14 @@ impl Tallies {
     }
 }
 
-// Makes some calls, one after another. Answers how many leases they closed.
+/// Makes some calls, one after another. Answers how many leases they closed.
 pub fn make_all<O: Office>(office: &mut O, calls: &[Call]) -> Tallies
-    ensures made { ListMade O.Kind.Share.kind O.Office.meaning O.Office.layers office.old calls.now result office.new }
-    ensures played { ListPlayed O.Kind.Share.kind O.Office.meaning O.Office.layers office.old calls.now result office.new }
-    ensures one_result { ListsLeaveNoChoice O.Kind.Share.kind }
-    ensures idle { AllIdle O.Kind.Share.kind (O.Office.meaning office.old) calls.now → office.new ≡ office.old }
-    ensures unused { unused (O.Office.rows office.new) ≡ unused (O.Office.rows office.old) }
-    ensures layers { O.Office.layers office.new ≡ O.Office.layers office.old }
-    ensures lent { O.Office.lent office.new ≡ O.Office.lent office.old }
-    ensures always { LendingConserved O.Kind.Share.kind }
+    ensures made { ListMade O.Kind.kind O.meaning O.layers office.old calls.now result office.new }
+    ensures played { ListPlayed O.Kind.kind O.meaning O.layers office.old calls.now result office.new }
+    ensures one_result { ListsLeaveNoChoice O.Kind.kind }
+    ensures idle { AllIdle O.Kind.kind (O.meaning office.old) calls.now → office.new ≡ office.old }
+    ensures keeps { Keeps O.rows O.loan O.layers office.old office.new }
+    ensures always { LendingConserved O.Kind.kind }
 {
     calls_leave_no_choice::<O::Kind>();
     make_each(office, calls)
@@ -72,13 +70,11 @@ pub fn make_all<O: Office>(office: &mut O, calls: &[Call]) -> Tallies
 // The calls made from the first on. The loop is by itself so that a wrong call of it is refused where it stands, and not in
 // the proof of the loop.
 fn make_each<O: Office>(office: &mut O, calls: &[Call]) -> Tallies
-    ensures made { ListMade O.Kind.Share.kind O.Office.meaning O.Office.layers office.old calls.now result office.new }
-    ensures played { ListPlayed O.Kind.Share.kind O.Office.meaning O.Office.layers office.old calls.now result office.new }
-    ensures idle { AllIdle O.Kind.Share.kind (O.Office.meaning office.old) calls.now → office.new ≡ office.old }
-    ensures unused { unused (O.Office.rows office.new) ≡ unused (O.Office.rows office.old) }
-    ensures layers { O.Office.layers office.new ≡ O.Office.layers office.old }
-    ensures lent { O.Office.lent office.new ≡ O.Office.lent office.old }
-    ensures always { LendingConserved O.Kind.Share.kind }
+    ensures made { ListMade O.Kind.kind O.meaning O.layers office.old calls.now result office.new }
+    ensures played { ListPlayed O.Kind.kind O.meaning O.layers office.old calls.now result office.new }
+    ensures idle { AllIdle O.Kind.kind (O.meaning office.old) calls.now → office.new ≡ office.old }
+    ensures keeps { Keeps O.rows O.loan O.layers office.old office.new }
+    ensures always { LendingConserved O.Kind.kind }
 {
     lending_is_conserved::<O::Kind>();
     let mut tallies = Tallies::default();

@@ -10,7 +10,7 @@ use std::num::ParseIntError;
 use std::str::{FromStr, SplitWhitespace};
 use thiserror::Error;
 
-// The error of a text that is no call.
+/// The error of a text that is no call.
 #[derive(Clone, Copy, PartialEq, Eq, Debug, Drop, Error)]
 #[error("no call to an office")]
 pub struct NotACall;

@@ -16,17 +16,13 @@ use lending::{Refusal, calls_leave_no_choice, lending_is_conserved};
 use office::Office;
 use shares::Share;
 
-// Makes a call that is given as a value.
+/// Makes a call that is given as a value.
 pub fn make<O: Office>(office: &mut O, call: Call) -> Result<Answer<O::Kind>, Refusal>
-    ensures does { Does O.Kind.Share.kind (O.Office.meaning office.old) (call_meant call) (answer_meant result) (O.Office.meaning office.new) }
-    ensures one_result { CallsLeaveNoChoice O.Kind.Share.kind }
-    ensures same { is_ok result ≡ false → office.new ≡ office.old }
-    ensures idle { idle (perform O.Kind.Share.kind (O.Office.meaning office.old) (call_meant call)) ≡ true → office.new ≡ office.old }
-    ensures unused { unused (O.Office.rows office.new) ≡ unused (O.Office.rows office.old) }
-    ensures layers { O.Office.layers office.new ≡ O.Office.layers office.old }
-    ensures lent { O.Office.lent office.new ≡ O.Office.lent office.old }
-    ensures conserved { CallConserves O.Kind.Share.kind (O.Office.meaning office.old) (call_meant call) (answer_meant result) (O.Office.meaning office.new) }
-    ensures always { LendingConserved O.Kind.Share.kind }
+    ensures performs { Performs O.Kind.kind O.meaning O.rows O.loan O.layers (call_meant call) (answer_meant result) office.old office.new }
+    ensures one_result { CallsLeaveNoChoice O.Kind.kind }
+    ensures idle { idle (perform O.Kind.kind (O.meaning office.old) (call_meant call)) ≡ true → office.new ≡ office.old }
+    ensures conserved { CallConserves O.Kind.kind (O.meaning office.old) (call_meant call) (answer_meant result) (O.meaning office.new) }
+    ensures always { LendingConserved O.Kind.kind }
 {
     lending_is_conserved::<O::Kind>();
     calls_leave_no_choice::<O::Kind>();
@@ -36,12 +32,8 @@ pub fn make<O: Office>(office: &mut O, call: Call) -> Result<Answer<O::Kind>, Re
 // Makes the call by the function of `desk` that has its name.
 #[tactic(auto, using(lending::proofs::Idling::idle_open, lending::proofs::Idling::idle_delegate, lending::proofs::Idling::idle_yield, lending::proofs::Idling::idle_merge, lending::proofs::Idling::idle_assign, lending::proofs::Idling::idle_day, lending::proofs::Idling::idle_recall, lending::proofs::Idling::idle_next))]
 fn ask<O: Office>(office: &mut O, call: Call) -> Result<Answer<O::Kind>, Refusal>
-    ensures does { Does O.Kind.Share.kind (O.Office.meaning office.old) (call_meant call) (answer_meant result) (O.Office.meaning office.new) }
-    ensures same { is_ok result ≡ false → office.new ≡ office.old }
-    ensures idle { idle (perform O.Kind.Share.kind (O.Office.meaning office.old) (call_meant call)) ≡ true → office.new ≡ office.old }
-    ensures unused { unused (O.Office.rows office.new) ≡ unused (O.Office.rows office.old) }
-    ensures layers { O.Office.layers office.new ≡ O.Office.layers office.old }
-    ensures lent { O.Office.lent office.new ≡ O.Office.lent office.old }
+    ensures performs { Performs O.Kind.kind O.meaning O.rows O.loan O.layers (call_meant call) (answer_meant result) office.old office.new }
+    ensures idle { idle (perform O.Kind.kind (O.meaning office.old) (call_meant call)) ≡ true → office.new ≡ office.old }
 {
     match call {
         Call::Open { resource, holder } => {

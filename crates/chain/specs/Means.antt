@@ -1,5 +1,5 @@
 -- What the rule Chain objects to.
-use Rattle.std.specs.Prelude.{ℕ, cond, ◌&&◌, Some, None, Option, ◌==◌, nat_le}
+use Rattle.std.specs.Prelude.{ℕ, if◌then◌else◌, ◌&&◌, Some, None, Option, ◌==◌, nat_le}
 use Rattle.lending.specs.declared.lease.Lease.{Lease}
 use Rattle.lending.specs.Office.Request.{opening, delegating, assigning}
 use Rattle.lending.specs.Roll.{live, height}
@@ -8,7 +8,7 @@ use Rattle.lending.specs.Layers.{Own, number_if}
 -- the lender of a lease, if there is the lease and its lender is not the house
 abbrev pub lender_of_lease : {S : Type 0} → Option (Lease S) → Option ℕ
 lender_of_lease None = None
-lender_of_lease (Some l) = cond (l.lender == 0) None (Some l.lender)
+lender_of_lease (Some l) = if l.lender == 0 then None else Some l.lender
 
 -- 23: the lender is live and has so many leases above it or more
 abbrev pub chain_objects : {S : Type 0} → ℕ → Own S

@@ -8,21 +8,21 @@ use layer::{Layer, Request, Rule};
 use lending::Reason;
 use office::Office;
 
-// A layer with this rule objects where a lease that has `limit` leases above it would lend.
+/// A layer with this rule objects where a lease that has `limit` leases above it would lend.
 #[derive(Clone, Copy, PartialEq, Eq, Debug, Drop)]
 pub struct Chain {
     limit: u16,
 }
 
 impl Chain {
-    // The layer with this rule over an office. It says by the definition of this rule what the layer stands for, which
-    // `Layer::new` can say of no rule in particular.
+    /// The layer with this rule over an office. It says by the definition of this rule what the layer stands for, which
+    /// `Layer::new` can say of no rule in particular.
     pub fn over<O: Office>(below: O, limit: u16) -> Layer<O, Chain>
-        ensures stands { ⟦<Layer<O, Chain> as Office>⟧.meaning result ≡ layered (chain_objects limit) (O.Office.meaning below) }
-        ensures set_up { SetUp (O.Office.meaning below) → SetUp (⟦<Layer<O, Chain> as Office>⟧.meaning result) }
-        ensures rows { ⟦<Layer<O, Chain> as Office>⟧.rows result ≡ O.Office.rows below }
-        ensures lent { ⟦<Layer<O, Chain> as Office>⟧.lent result ≡ O.Office.lent below }
-        ensures layers { ⟦<Layer<O, Chain> as Office>⟧.layers result ≡ chain_objects limit ∷ O.Office.layers below }
+        ensures stands { ⟦<Layer<O, Chain> as Office>⟧.meaning result ≡ layered (chain_objects limit) (O.meaning below) }
+        ensures set_up { SetUp (O.meaning below) → SetUp (⟦<Layer<O, Chain> as Office>⟧.meaning result) }
+        ensures rows { ⟦<Layer<O, Chain> as Office>⟧.rows result ≡ O.rows below }
+        ensures lent { ⟦<Layer<O, Chain> as Office>⟧.loan result ≡ O.loan below }
+        ensures layers { ⟦<Layer<O, Chain> as Office>⟧.layers result ≡ chain_objects limit ∷ O.layers below }
     {
         Layer::new(below, Chain { limit })
     }
@@ -42,7 +42,7 @@ impl<O: Office> Rule<O> for Chain {
 
 // The lender of a live lease, unless that is the house.
 fn lender_of<O: Office>(office: &O, lease: u16) -> Option<u16>
-    ensures { result ≡ lender_of_lease (find (O.Office.meaning office.now).core.roll lease) }
+    ensures { result ≡ lender_of_lease (find (O.meaning office.now).core.roll lease) }
 {
     office
         .lease(lease)
@@ -53,7 +53,7 @@ fn lender_of<O: Office>(office: &O, lease: u16) -> Option<u16>
 
 // How many leases are above a lease. A lender's number is lower, so that the walk up ends.
 fn height_of<O: Office>(office: &O, lease: u16) -> u16
-    ensures { result ≡ height (O.Office.meaning office.now).core.roll lease }
+    ensures { result ≡ height (O.meaning office.now).core.roll lease }
 {
     let mut height = 0;
     let mut reached = lease;

@@ -1,4 +1,4 @@
-// The rule Chain: a chain of lenders has so many leases at most.
+//! The rule Chain: a chain of lenders has so many leases at most.
 #![tactic(auto)]
 
 mod chain;

@@ -1,7 +1,7 @@
 -- Every join keeps the balance of readers given out and readers held.
 use Rattle.std.proofs.Common.{◌≡◌, ℕ, ◌+◌, ◌-◌, Bool, true, false, cond, leb, List, [], ◌∷◌, Some, None, Option, refl, ap, arith}
 use Rattle.std.proofs.lemmas.Bool.{leb-true}
-use Rattle.shares.specs.Kind.{then}
+use Rattle.shares.specs.Kind.{bind}
 use Rattle.shares.specs.Joins.{together}
 use Rattle.counting.specs.declared.permission.Permission.{Permission}
 use Rattle.counting.specs.declared.permission.Permission.TheVariants.{Empty, Source, Readers}
@@ -33,7 +33,7 @@ plus_balanced (Readers j) (Readers k) z e = let f : Readers (j + k) ≡ z = cc i
 join_balanced : (a b c : Counting) → join a b ≡ Some c → Balanced a.held b.held c.held
 join_balanced a b c = go (plus a.held b.held) refl
   where
-    go : (o : Option Permission) → plus a.held b.held ≡ o → then o counting_if_within ≡ Some c → Balanced a.held b.held c.held
+    go : (o : Option Permission) → plus a.held b.held ≡ o → bind o counting_if_within ≡ Some c → Balanced a.held b.held c.held
     go None f e = let z : ◌≡◌ {A = ℕ} 0 1 = cc in absurd (omega arith)
     go (Some p) f e = let h = counted_is p c e in let g = plus_balanced a.held b.held p f in omega (arith, ap readers_held h, ap readers_given_out h)
 
@@ -44,7 +44,7 @@ balanced (x ∷ xs) s e = go (together counting_kind xs) refl (balanced xs) e
   where
     go : (o : Option Counting) → together counting_kind xs ≡ o
         → ((t : Counting) → together counting_kind xs ≡ Some t → total readers_given_out xs + readers_held t.held ≡ readers_given_out t.held + total readers_held xs)
-        → then o (λ t. join x t) ≡ Some s → total readers_given_out (x ∷ xs) + readers_held s.held ≡ readers_given_out s.held + total readers_held (x ∷ xs)
+        → bind o (λ t. join x t) ≡ Some s → total readers_given_out (x ∷ xs) + readers_held s.held ≡ readers_given_out s.held + total readers_held (x ∷ xs)
     go None f rest e = let z : ◌≡◌ {A = ℕ} 0 1 = cc in absurd (omega arith)
     go (Some t) f rest e = omega (arith, rest t f, join_balanced x t s e)
 

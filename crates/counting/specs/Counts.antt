@@ -1,6 +1,6 @@
 -- Counting shares, as in the permissions of Bornat, Calcagno, O'Hearn and Parkinson: what a source has given out is what its readers hold.
-use Rattle.std.specs.Prelude.{◌≡◌, ℕ, ◌+◌, ◌-◌, Bool, true, false, cond, List, [], ◌∷◌, Some, None, decimal, Option, ◌==◌, nat_le, refl}
-use Rattle.shares.specs.Kind.{Kind, then}
+use Rattle.std.specs.Prelude.{◌≡◌, ℕ, ◌+◌, ◌-◌, Bool, true, false, if◌then◌else◌, List, [], ◌∷◌, Some, None, decimal, Option, ◌==◌, nat_le, refl}
+use Rattle.shares.specs.Kind.{Kind, bind}
 use Rattle.counting.specs.declared.permission.Permission.{Permission}
 use Rattle.counting.specs.declared.permission.Permission.TheVariants.{Empty, Source, Readers}
 use Rattle.counting.specs.declared.counting.Counting.{Counting}
@@ -16,16 +16,16 @@ counting_of p = of_permission_by p (within p) refl
 
 -- the share with a permission; None where that is beyond the limits
 abbrev pub counting_if_within : Permission → Option Counting
-counting_if_within p = cond (within p) (Some (counting_of p)) None
+counting_if_within p = if within p then Some (counting_of p) else None
 
 -- readers add up, and readers given back to a source are no longer given out
 abbrev pub plus : Permission → Permission → Option Permission
 plus Empty p = Some p
 plus (Source n) Empty = Some (Source n)
 plus (Source n) (Source m) = None
-plus (Source n) (Readers k) = cond (nat_le k n) (Some (Source (n - k))) None
+plus (Source n) (Readers k) = if nat_le k n then Some (Source (n - k)) else None
 plus (Readers k) Empty = Some (Readers k)
-plus (Readers k) (Source n) = cond (nat_le k n) (Some (Source (n - k))) None
+plus (Readers k) (Source n) = if nat_le k n then Some (Source (n - k)) else None
 plus (Readers j) (Readers k) = Some (Readers (j + k))
 
 -- what is kept where one reader is lent
@@ -35,11 +35,11 @@ less (Source n) = Some (Source (n + 1))
 less (Readers k) = Some (Readers (k - 1))
 
 abbrev pub join : Counting → Counting → Option Counting
-join a b = then (plus a.held b.held) counting_if_within
+join a b = bind (plus a.held b.held) counting_if_within
 
 -- one reader is lent
 abbrev pub halve : Counting → Option (Counting × Counting)
-halve a = then (then (less a.held) counting_if_within) (λ kept. Some (kept, counting_of (Readers 1)))
+halve a = bind (bind (less a.held) counting_if_within) (λ kept. Some (kept, counting_of (Readers 1)))
 
 abbrev pub alike : Permission → Permission → Bool
 alike Empty Empty = true

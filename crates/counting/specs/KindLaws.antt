@@ -6,7 +6,7 @@ use Rattle.std.proofs.Math.Bool.{Bool-set}
 use mathlib.Core.HLevel.{is_prop→PathP}
 use Rattle.std.proofs.Math.Dec.{eqb_refl}
 use Rattle.std.proofs.lemmas.Bool.{cases_lt, leb-true, le-leb, cond-true, and_parts, and_from, true≢false}
-use Rattle.shares.specs.Kind.{Laws, then}
+use Rattle.shares.specs.Kind.{Laws, bind}
 use Rattle.shares.proofs.Weighed as by_weight
 use Rattle.counting.specs.declared.permission.Permission.{Permission}
 use Rattle.counting.specs.declared.permission.Permission.TheVariants.{Empty, Source, Readers}
@@ -118,12 +118,12 @@ plus_made (Readers j) (Readers k) (Readers l) p q r e = ap (λ x. Some (Readers 
 adds : (a b c : Counting) → join a b ≡ Some c → weight c ≡ weight a + weight b
 adds a b c = go (plus a.held b.held) refl
   where
-    go : (o : Option Permission) → plus a.held b.held ≡ o → then o counting_if_within ≡ Some c → weight c ≡ weight a + weight b
+    go : (o : Option Permission) → plus a.held b.held ≡ o → bind o counting_if_within ≡ Some c → weight c ≡ weight a + weight b
     go None f e = let z : ◌≡◌ {A = ℕ} 0 1 = cc in absurd (omega arith)
     go (Some p) f e = ap heft (counted_is p c e) ∙ plus_adds a.held b.held p a.limited b.limited f
 
 joins : (a b c : Counting) → weight c ≡ weight a + weight b → join a b ≡ Some c
-joins a b c e = ap (λ o. then o counting_if_within) (plus_made a.held b.held c.held a.limited b.limited c.limited e) ∙ counted_made c.held c refl
+joins a b c e = ap (λ o. bind o counting_if_within) (plus_made a.held b.held c.held a.limited b.limited c.limited e) ∙ counted_made c.held c refl
 
 -- the weights that shares have
 abbrev Weighs : ℕ → Type 0
@@ -163,14 +163,14 @@ with_one c = (c, one)
 halve_is : (a k l : Counting) → halve a ≡ Some (k, l) → Halved a k l
 halve_is a k l = go (less a.held) refl
   where
-    go₂ : (p : Permission) (o : Option Counting) → less a.held ≡ Some p → counting_if_within p ≡ o → then o (λ c. Some (with_one c)) ≡ Some (k, l) → Halved a k l
+    go₂ : (p : Permission) (o : Option Counting) → less a.held ≡ Some p → counting_if_within p ≡ o → bind o (λ c. Some (with_one c)) ≡ Some (k, l) → Halved a k l
     go₂ p None f g e = let z : ◌≡◌ {A = ℕ} 0 1 = cc in absurd (omega arith)
     go₂ p (Some x) f g e =
         let h : ◌≡◌ {A = Counting × Counting} (with_one x) (k, l) = cc in
         let i : x ≡ k = ap (λ q. q.0) h in
         record { kept = f ∙ ap Some (sym (counted_is p x g) ∙ ap (λ s. s.held) i); lent = sym (ap (λ q. q.1) h) }
 
-    go : (o : Option Permission) → less a.held ≡ o → then (then o counting_if_within) (λ c. Some (with_one c)) ≡ Some (k, l) → Halved a k l
+    go : (o : Option Permission) → less a.held ≡ o → bind (bind o counting_if_within) (λ c. Some (with_one c)) ≡ Some (k, l) → Halved a k l
     go None f e = let z : ◌≡◌ {A = ℕ} 0 1 = cc in absurd (omega arith)
     go (Some p) f e = go₂ p (counting_if_within p) f refl e
 

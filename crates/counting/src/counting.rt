@@ -6,7 +6,7 @@ use crate::permission::Permission;
 pub mod kind;
 pub mod print;
 
-// A permission within the limits.
+/// A permission within the limits.
 #[derive(Clone, Copy, PartialEq, Eq)]
 pub struct Counting {
     held: Permission,

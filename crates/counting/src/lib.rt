@@ -1,5 +1,5 @@
-// Counting shares: a source that has given out so many readers, or so many readers, as in the permissions of Bornat and
-// others.
+//! Counting shares: a source that has given out so many readers, or so many readers, as in the permissions of Bornat and
+//! others.
 #![tactic(auto)]
 
 mod balance;

@@ -1,4 +1,4 @@
-// What a counting share permits: nothing, a source that has given out so many readers, or so many readers.
+/// What a counting share permits: nothing, a source that has given out so many readers, or so many readers.
 #[derive(Clone, Copy, PartialEq, Eq)]
 pub enum Permission {
     Empty,

@@ -9,90 +9,66 @@ ghost use Rattle.office.specs.Lawful.{unused};
 use lending::{Refusal, lending_is_conserved};
 use office::Office;
 
-// Opens a resource: the holder gets its first lease, with the whole. Answers its number.
+/// Opens a resource: the holder gets its first lease, with the whole. Answers its number.
 pub fn open<O: Office>(office: &mut O, resource: u16, holder: u16) -> Result<u16, Refusal>
-    ensures does { Does O.Kind.Share.kind (O.Office.meaning office.old) (open_resource resource holder) (number_or_refused result) (O.Office.meaning office.new) }
-    ensures same { is_ok result ≡ false → office.new ≡ office.old }
-    ensures unused { unused (O.Office.rows office.new) ≡ unused (O.Office.rows office.old) }
-    ensures layers { O.Office.layers office.new ≡ O.Office.layers office.old }
-    ensures lent { O.Office.lent office.new ≡ O.Office.lent office.old }
-    ensures conserved { CallConserves O.Kind.Share.kind (O.Office.meaning office.old) (open_resource resource holder) (number_or_refused result) (O.Office.meaning office.new) }
-    ensures always { LendingConserved O.Kind.Share.kind }
+    ensures performs { Performs O.Kind.kind O.meaning O.rows O.loan O.layers (open_resource resource holder) (number_or_refused result) office.old office.new }
+    ensures conserved { CallConserves O.Kind.kind (O.meaning office.old) (open_resource resource holder) (number_or_refused result) (O.meaning office.new) }
+    ensures always { LendingConserved O.Kind.kind }
 {
     lending_is_conserved::<O::Kind>();
     office.open(resource, holder)
 }
 
-// Lends half of a lease's share to a holder, until a day. Answers the new lease's number.
+/// Lends half of a lease's share to a holder, until a day. Answers the new lease's number.
 pub fn delegate<O: Office>(
     office: &mut O,
     lender: u16,
     holder: u16,
     due: u16,
 ) -> Result<u16, Refusal>
-    ensures does { Does O.Kind.Share.kind (O.Office.meaning office.old) (delegate lender holder due) (number_or_refused result) (O.Office.meaning office.new) }
-    ensures same { is_ok result ≡ false → office.new ≡ office.old }
-    ensures unused { unused (O.Office.rows office.new) ≡ unused (O.Office.rows office.old) }
-    ensures layers { O.Office.layers office.new ≡ O.Office.layers office.old }
-    ensures lent { O.Office.lent office.new ≡ O.Office.lent office.old }
-    ensures conserved { CallConserves O.Kind.Share.kind (O.Office.meaning office.old) (delegate lender holder due) (number_or_refused result) (O.Office.meaning office.new) }
-    ensures always { LendingConserved O.Kind.Share.kind }
+    ensures performs { Performs O.Kind.kind O.meaning O.rows O.loan O.layers (delegate lender holder due) (number_or_refused result) office.old office.new }
+    ensures conserved { CallConserves O.Kind.kind (O.meaning office.old) (delegate lender holder due) (number_or_refused result) (O.meaning office.new) }
+    ensures always { LendingConserved O.Kind.kind }
 {
     lending_is_conserved::<O::Kind>();
     office.delegate(lender, holder, due)
 }
 
-// Closes a lease, and joins its share to its lender's.
+/// Closes a lease, and joins its share to its lender's.
 pub fn yield_lease<O: Office>(office: &mut O, lease: u16) -> Result<(), Refusal>
-    ensures does { Does O.Kind.Share.kind (O.Office.meaning office.old) (yield lease) (done_or_refused result) (O.Office.meaning office.new) }
-    ensures same { is_ok result ≡ false → office.new ≡ office.old }
-    ensures unused { unused (O.Office.rows office.new) ≡ unused (O.Office.rows office.old) }
-    ensures layers { O.Office.layers office.new ≡ O.Office.layers office.old }
-    ensures lent { O.Office.lent office.new ≡ O.Office.lent office.old }
-    ensures conserved { CallConserves O.Kind.Share.kind (O.Office.meaning office.old) (yield lease) (done_or_refused result) (O.Office.meaning office.new) }
-    ensures always { LendingConserved O.Kind.Share.kind }
+    ensures performs { Performs O.Kind.kind O.meaning O.rows O.loan O.layers (yield lease) (done_or_refused result) office.old office.new }
+    ensures conserved { CallConserves O.Kind.kind (O.meaning office.old) (yield lease) (done_or_refused result) (O.meaning office.new) }
+    ensures always { LendingConserved O.Kind.kind }
 {
     lending_is_conserved::<O::Kind>();
     office.yield_lease(lease)
 }
 
-// Closes lease b; lease a gets both shares, and lends what b lent.
+/// Closes lease b; lease a gets both shares, and lends what b lent.
 pub fn merge<O: Office>(office: &mut O, a: u16, b: u16) -> Result<(), Refusal>
-    ensures does { Does O.Kind.Share.kind (O.Office.meaning office.old) (merge a b) (done_or_refused result) (O.Office.meaning office.new) }
-    ensures same { is_ok result ≡ false → office.new ≡ office.old }
-    ensures unused { unused (O.Office.rows office.new) ≡ unused (O.Office.rows office.old) }
-    ensures layers { O.Office.layers office.new ≡ O.Office.layers office.old }
-    ensures lent { O.Office.lent office.new ≡ O.Office.lent office.old }
-    ensures conserved { CallConserves O.Kind.Share.kind (O.Office.meaning office.old) (merge a b) (done_or_refused result) (O.Office.meaning office.new) }
-    ensures always { LendingConserved O.Kind.Share.kind }
+    ensures performs { Performs O.Kind.kind O.meaning O.rows O.loan O.layers (merge a b) (done_or_refused result) office.old office.new }
+    ensures conserved { CallConserves O.Kind.kind (O.meaning office.old) (merge a b) (done_or_refused result) (O.meaning office.new) }
+    ensures always { LendingConserved O.Kind.kind }
 {
     lending_is_conserved::<O::Kind>();
     office.merge(a, b)
 }
 
-// Changes the holder of a lease.
+/// Changes the holder of a lease.
 pub fn assign<O: Office>(office: &mut O, lease: u16, holder: u16) -> Result<(), Refusal>
-    ensures does { Does O.Kind.Share.kind (O.Office.meaning office.old) (assign lease holder) (done_or_refused result) (O.Office.meaning office.new) }
-    ensures same { is_ok result ≡ false → office.new ≡ office.old }
-    ensures unused { unused (O.Office.rows office.new) ≡ unused (O.Office.rows office.old) }
-    ensures layers { O.Office.layers office.new ≡ O.Office.layers office.old }
-    ensures lent { O.Office.lent office.new ≡ O.Office.lent office.old }
-    ensures conserved { CallConserves O.Kind.Share.kind (O.Office.meaning office.old) (assign lease holder) (done_or_refused result) (O.Office.meaning office.new) }
-    ensures always { LendingConserved O.Kind.Share.kind }
+    ensures performs { Performs O.Kind.kind O.meaning O.rows O.loan O.layers (assign lease holder) (done_or_refused result) office.old office.new }
+    ensures conserved { CallConserves O.Kind.kind (O.meaning office.old) (assign lease holder) (done_or_refused result) (O.meaning office.new) }
+    ensures always { LendingConserved O.Kind.kind }
 {
     lending_is_conserved::<O::Kind>();
     office.assign(lease, holder)
 }
 
-// Changes today.
+/// Changes today.
 pub fn set_day<O: Office>(office: &mut O, day: u16) -> Result<(), Refusal>
-    ensures does { Does O.Kind.Share.kind (O.Office.meaning office.old) (new_day day) (done_or_refused result) (O.Office.meaning office.new) }
-    ensures same { is_ok result ≡ false → office.new ≡ office.old }
-    ensures unused { unused (O.Office.rows office.new) ≡ unused (O.Office.rows office.old) }
-    ensures layers { O.Office.layers office.new ≡ O.Office.layers office.old }
-    ensures lent { O.Office.lent office.new ≡ O.Office.lent office.old }
-    ensures conserved { CallConserves O.Kind.Share.kind (O.Office.meaning office.old) (new_day day) (done_or_refused result) (O.Office.meaning office.new) }
-    ensures always { LendingConserved O.Kind.Share.kind }
+    ensures performs { Performs O.Kind.kind O.meaning O.rows O.loan O.layers (new_day day) (done_or_refused result) office.old office.new }
+    ensures conserved { CallConserves O.Kind.kind (O.meaning office.old) (new_day day) (done_or_refused result) (O.meaning office.new) }
+    ensures always { LendingConserved O.Kind.kind }
 {
     lending_is_conserved::<O::Kind>();
     office.set_day(day)

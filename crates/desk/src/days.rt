@@ -13,16 +13,12 @@ use crate::sweep::{Numbers, yield_down};
 use lending::{LAST_DAY, Reason, Refusal, lending_is_conserved};
 use office::{Office, leases};
 
-// Closes every lease that falls due by a day, then sets the day, and answers how many it closed.
+/// Closes every lease that falls due by a day, then sets the day, and answers how many it closed.
 pub fn day<O: Office>(office: &mut O, day: u16) -> Result<usize, Refusal>
-    ensures does { Does O.Kind.Share.kind (O.Office.meaning office.old) (next_day day) (number_or_refused result) (O.Office.meaning office.new) }
-    ensures comes { is_ok result ≡ true → DayComes O.Kind.Share.kind (O.Office.meaning office.old) day (O.Office.meaning office.new) }
-    ensures same { is_ok result ≡ false → office.new ≡ office.old }
-    ensures unused { unused (O.Office.rows office.new) ≡ unused (O.Office.rows office.old) }
-    ensures layers { O.Office.layers office.new ≡ O.Office.layers office.old }
-    ensures lent { O.Office.lent office.new ≡ O.Office.lent office.old }
-    ensures conserved { CallConserves O.Kind.Share.kind (O.Office.meaning office.old) (next_day day) (number_or_refused result) (O.Office.meaning office.new) }
-    ensures always { LendingConserved O.Kind.Share.kind }
+    ensures performs { Performs O.Kind.kind O.meaning O.rows O.loan O.layers (next_day day) (number_or_refused result) office.old office.new }
+    ensures comes { is_ok result ≡ true → DayComes O.Kind.kind (O.meaning office.old) day (O.meaning office.new) }
+    ensures conserved { CallConserves O.Kind.kind (O.meaning office.old) (next_day day) (number_or_refused result) (O.meaning office.new) }
+    ensures always { LendingConserved O.Kind.kind }
 {
     lending_is_conserved::<O::Kind>();
     if day < office.today() || day > LAST_DAY {
@@ -34,11 +30,9 @@ pub fn day<O: Office>(office: &mut O, day: u16) -> Result<usize, Refusal>
 // The same where the day is neither before today nor after the last.
 #[tactic(auto, using(crate::proofs::Closing::day_came))]
 fn move_to<O: Office>(office: &mut O, day: u16) -> usize
-    requires { bad_day (O.Office.meaning office.old) day ≡ false }
-    ensures does { Does O.Kind.Share.kind (O.Office.meaning office.old) (next_day day) (number result) (O.Office.meaning office.new) }
-    ensures unused { unused (O.Office.rows office.new) ≡ unused (O.Office.rows office.old) }
-    ensures layers { O.Office.layers office.new ≡ O.Office.layers office.old }
-    ensures lent { O.Office.lent office.new ≡ O.Office.lent office.old }
+    requires { bad_day (O.meaning office.old) day ≡ false }
+    ensures does { Does O.Kind.kind (O.meaning office.old) (next_day day) (number result) (O.meaning office.new) }
+    ensures keeps { Keeps O.rows O.loan O.layers office.old office.new }
 {
     let numbers = due_of(office, day);
     yield_down(office, numbers.as_slice());
@@ -49,7 +43,7 @@ fn move_to<O: Office>(office: &mut O, day: u16) -> usize
 
 // The numbers of the live leases that fall due by a day.
 fn due_of<O: Office>(office: &O, day: u16) -> Numbers
-    ensures { result.items ≡ map (λ l. l.number) (filter (due_by day) (O.Office.meaning office.now).core.roll) }
+    ensures { result.items ≡ map (λ l. l.number) (filter (due_by day) (O.meaning office.now).core.roll) }
 {
     let mut numbers = Numbers::new();
     for lease in leases(office) {

@@ -10,60 +10,60 @@ ghost use Rattle.office.specs.ToCome.{leases_to_come};
 use lending::{Lease, Refusal, lending_is_conserved};
 use office::{LiveLeases, Office};
 
-// How many leases are live.
+/// How many leases are live.
 pub fn count<O: Office>(office: &O) -> usize
-    ensures does { Does O.Kind.Share.kind (O.Office.meaning office.now) ask_count (number result) (O.Office.meaning office.now) }
-    ensures conserved { CallConserves O.Kind.Share.kind (O.Office.meaning office.now) ask_count (number result) (O.Office.meaning office.now) }
-    ensures always { LendingConserved O.Kind.Share.kind }
+    ensures does { Does O.Kind.kind (O.meaning office.now) ask_count (number result) (O.meaning office.now) }
+    ensures conserved { CallConserves O.Kind.kind (O.meaning office.now) ask_count (number result) (O.meaning office.now) }
+    ensures always { LendingConserved O.Kind.kind }
 {
     lending_is_conserved::<O::Kind>();
     office.count()
 }
 
-// How many numbers were issued.
+/// How many numbers were issued.
 pub fn issued<O: Office>(office: &O) -> u16
-    ensures does { Does O.Kind.Share.kind (O.Office.meaning office.now) ask_issued (number result) (O.Office.meaning office.now) }
-    ensures conserved { CallConserves O.Kind.Share.kind (O.Office.meaning office.now) ask_issued (number result) (O.Office.meaning office.now) }
-    ensures always { LendingConserved O.Kind.Share.kind }
+    ensures does { Does O.Kind.kind (O.meaning office.now) ask_issued (number result) (O.meaning office.now) }
+    ensures conserved { CallConserves O.Kind.kind (O.meaning office.now) ask_issued (number result) (O.meaning office.now) }
+    ensures always { LendingConserved O.Kind.kind }
 {
     lending_is_conserved::<O::Kind>();
     office.issued()
 }
 
-// Today.
+/// Today.
 pub fn today<O: Office>(office: &O) -> u16
-    ensures does { Does O.Kind.Share.kind (O.Office.meaning office.now) ask_today (number result) (O.Office.meaning office.now) }
-    ensures conserved { CallConserves O.Kind.Share.kind (O.Office.meaning office.now) ask_today (number result) (O.Office.meaning office.now) }
-    ensures always { LendingConserved O.Kind.Share.kind }
+    ensures does { Does O.Kind.kind (O.meaning office.now) ask_today (number result) (O.meaning office.now) }
+    ensures conserved { CallConserves O.Kind.kind (O.meaning office.now) ask_today (number result) (O.meaning office.now) }
+    ensures always { LendingConserved O.Kind.kind }
 {
     lending_is_conserved::<O::Kind>();
     office.today()
 }
 
-// The live lease at a position of the roll, from 0.
+/// The live lease at a position of the roll, from 0.
 pub fn lease_at<O: Office>(office: &O, position: usize) -> Result<Lease<O::Kind>, Refusal>
-    ensures does { Does O.Kind.Share.kind (O.Office.meaning office.now) (ask_lease_at position) (lease_or_refused result) (O.Office.meaning office.now) }
-    ensures conserved { CallConserves O.Kind.Share.kind (O.Office.meaning office.now) (ask_lease_at position) (lease_or_refused result) (O.Office.meaning office.now) }
-    ensures always { LendingConserved O.Kind.Share.kind }
+    ensures does { Does O.Kind.kind (O.meaning office.now) (ask_lease_at position) (lease_or_refused result) (O.meaning office.now) }
+    ensures conserved { CallConserves O.Kind.kind (O.meaning office.now) (ask_lease_at position) (lease_or_refused result) (O.meaning office.now) }
+    ensures always { LendingConserved O.Kind.kind }
 {
     lending_is_conserved::<O::Kind>();
     office.lease_at(position)
 }
 
-// The live lease with a number.
+/// The live lease with a number.
 pub fn lease<O: Office>(office: &O, lease: u16) -> Result<Lease<O::Kind>, Refusal>
-    ensures does { Does O.Kind.Share.kind (O.Office.meaning office.now) (ask_lease lease) (lease_or_refused result) (O.Office.meaning office.now) }
-    ensures conserved { CallConserves O.Kind.Share.kind (O.Office.meaning office.now) (ask_lease lease) (lease_or_refused result) (O.Office.meaning office.now) }
-    ensures always { LendingConserved O.Kind.Share.kind }
+    ensures does { Does O.Kind.kind (O.meaning office.now) (ask_lease lease) (lease_or_refused result) (O.meaning office.now) }
+    ensures conserved { CallConserves O.Kind.kind (O.meaning office.now) (ask_lease lease) (lease_or_refused result) (O.meaning office.now) }
+    ensures always { LendingConserved O.Kind.kind }
 {
     lending_is_conserved::<O::Kind>();
     office.lease(lease)
 }
 
-// The live leases one by one, in the order of the roll.
+/// The live leases one by one, in the order of the roll.
 pub fn leases<O: Office>(office: &O) -> LiveLeases<'_, O>
-    ensures is { leases_to_come O.Office.meaning result ≡ (O.Office.meaning office.now).core.roll }
-    ensures always { LendingConserved O.Kind.Share.kind }
+    ensures is { leases_to_come O.meaning result ≡ (O.meaning office.now).core.roll }
+    ensures always { LendingConserved O.Kind.kind }
 {
     lending_is_conserved::<O::Kind>();
     office::leases(office)

@@ -14,16 +14,12 @@ use crate::sweep::{Numbers, yield_down};
 use lending::{Reason, Refusal, lending_is_conserved};
 use office::{Office, leases};
 
-// Closes a lease and all under it, and answers how many.
+/// Closes a lease and all under it, and answers how many.
 pub fn recall<O: Office>(office: &mut O, lease: u16) -> Result<usize, Refusal>
-    ensures does { Does O.Kind.Share.kind (O.Office.meaning office.old) (recall lease) (number_or_refused result) (O.Office.meaning office.new) }
-    ensures takes_back { TakesBack O.Kind.Share.kind (O.Office.meaning office.old) lease (O.Office.meaning office.new) }
-    ensures same { is_ok result ≡ false → office.new ≡ office.old }
-    ensures unused { unused (O.Office.rows office.new) ≡ unused (O.Office.rows office.old) }
-    ensures layers { O.Office.layers office.new ≡ O.Office.layers office.old }
-    ensures lent { O.Office.lent office.new ≡ O.Office.lent office.old }
-    ensures conserved { CallConserves O.Kind.Share.kind (O.Office.meaning office.old) (recall lease) (number_or_refused result) (O.Office.meaning office.new) }
-    ensures always { LendingConserved O.Kind.Share.kind }
+    ensures performs { Performs O.Kind.kind O.meaning O.rows O.loan O.layers (recall lease) (number_or_refused result) office.old office.new }
+    ensures takes_back { TakesBack O.Kind.kind (O.meaning office.old) lease (O.meaning office.new) }
+    ensures conserved { CallConserves O.Kind.kind (O.meaning office.old) (recall lease) (number_or_refused result) (O.meaning office.new) }
+    ensures always { LendingConserved O.Kind.kind }
 {
     lending_is_conserved::<O::Kind>();
     if office.lease(lease).is_err() {
@@ -35,11 +31,9 @@ pub fn recall<O: Office>(office: &mut O, lease: u16) -> Result<usize, Refusal>
 // The same of a live lease.
 #[tactic(auto, using(crate::proofs::Closing::recalled))]
 fn take_back<O: Office>(office: &mut O, lease: u16) -> usize
-    requires { live (O.Office.meaning office.old).core.roll lease ≡ true }
-    ensures does { Does O.Kind.Share.kind (O.Office.meaning office.old) (recall lease) (number result) (O.Office.meaning office.new) }
-    ensures unused { unused (O.Office.rows office.new) ≡ unused (O.Office.rows office.old) }
-    ensures layers { O.Office.layers office.new ≡ O.Office.layers office.old }
-    ensures lent { O.Office.lent office.new ≡ O.Office.lent office.old }
+    requires { live (O.meaning office.old).core.roll lease ≡ true }
+    ensures does { Does O.Kind.kind (O.meaning office.old) (recall lease) (number result) (O.meaning office.new) }
+    ensures keeps { Keeps O.rows O.loan O.layers office.old office.new }
 {
     let numbers = family_of(office, lease);
     yield_down(office, numbers.as_slice());
@@ -49,8 +43,8 @@ fn take_back<O: Office>(office: &mut O, lease: u16) -> usize
 // The numbers of a lease and of all live leases under it. A lender's number is lower, so that one pass over the roll finds
 // them.
 fn family_of<O: Office>(office: &O, top: u16) -> Numbers
-    requires { live (O.Office.meaning office.now).core.roll top ≡ true }
-    ensures { result.items ≡ map (λ l. l.number) (family (O.Office.meaning office.now).core.roll top) }
+    requires { live (O.meaning office.now).core.roll top ≡ true }
+    ensures { result.items ≡ map (λ l. l.number) (family (O.meaning office.now).core.roll top) }
 {
     let mut numbers = Numbers::new();
     for lease in leases(office) {

@@ -11,8 +11,8 @@ use crate::recalls::recall;
 use lending::lending_is_conserved;
 use office::Office;
 
-// A slip for a lease of any number. It must be handed in, just once: it can't be copied, handing it in uses it up, and a program
-// that lets one go before, on whichever way out, is refused by the check, which asks at each drop that it was handed in.
+/// A slip for a lease of any number. It must be handed in, just once: it can't be copied, handing it in uses it up, and a program
+/// that lets one go before, on whichever way out, is refused by the check, which asks at each drop that it was handed in.
 pub struct Slip {
     lease: u16,
     handed_in: bool,
@@ -30,7 +30,7 @@ impl Drop for Slip {
 }
 
 impl Slip {
-    // Draws a slip for a lease.
+    /// Draws a slip for a lease.
     pub fn draw(lease: u16) -> Slip
         ensures lease { result.lease ≡ lease }
         ensures drawn { result.handed_in ≡ false }
@@ -41,16 +41,14 @@ impl Slip {
         }
     }
 
-    // Recalls the lease if it is live, and answers how many leases that closed, else 0.
+    /// Recalls the lease if it is live, and answers how many leases that closed, else 0.
     pub fn hand_in<O: Office>(mut self, office: &mut O) -> usize
-        ensures does { Does O.Kind.Share.kind (O.Office.meaning office.old) (hand_in self.lease) (number result) (O.Office.meaning office.new) }
-        ensures takes_back { TakesBack O.Kind.Share.kind (O.Office.meaning office.old) self.lease (O.Office.meaning office.new) }
-        ensures idle { idle (perform O.Kind.Share.kind (O.Office.meaning office.old) (hand_in self.lease)) ≡ true → office.new ≡ office.old }
-        ensures unused { unused (O.Office.rows office.new) ≡ unused (O.Office.rows office.old) }
-        ensures layers { O.Office.layers office.new ≡ O.Office.layers office.old }
-        ensures lent { O.Office.lent office.new ≡ O.Office.lent office.old }
-        ensures conserved { CallConserves O.Kind.Share.kind (O.Office.meaning office.old) (hand_in self.lease) (number result) (O.Office.meaning office.new) }
-        ensures always { LendingConserved O.Kind.Share.kind }
+        ensures does { Does O.Kind.kind (O.meaning office.old) (hand_in self.lease) (number result) (O.meaning office.new) }
+        ensures takes_back { TakesBack O.Kind.kind (O.meaning office.old) self.lease (O.meaning office.new) }
+        ensures idle { idle (perform O.Kind.kind (O.meaning office.old) (hand_in self.lease)) ≡ true → office.new ≡ office.old }
+        ensures keeps { Keeps O.rows O.loan O.layers office.old office.new }
+        ensures conserved { CallConserves O.Kind.kind (O.meaning office.old) (hand_in self.lease) (number result) (O.meaning office.new) }
+        ensures always { LendingConserved O.Kind.kind }
     {
         lending_is_conserved::<O::Kind>();
         self.handed_in = true;
@@ -61,11 +59,9 @@ impl Slip {
 // Recalls a lease if it is live, and answers how many leases that closed, else 0.
 #[tactic(auto, using(crate::proofs::Closing::handed_in, crate::proofs::Closing::idle_hand_in))]
 fn recall_if_live<O: Office>(office: &mut O, lease: u16) -> usize
-    ensures does { Does O.Kind.Share.kind (O.Office.meaning office.old) (hand_in lease) (number result) (O.Office.meaning office.new) }
-    ensures idle { idle (perform O.Kind.Share.kind (O.Office.meaning office.old) (hand_in lease)) ≡ true → office.new ≡ office.old }
-    ensures unused { unused (O.Office.rows office.new) ≡ unused (O.Office.rows office.old) }
-    ensures layers { O.Office.layers office.new ≡ O.Office.layers office.old }
-    ensures lent { O.Office.lent office.new ≡ O.Office.lent office.old }
+    ensures does { Does O.Kind.kind (O.meaning office.old) (hand_in lease) (number result) (O.meaning office.new) }
+    ensures idle { idle (perform O.Kind.kind (O.meaning office.old) (hand_in lease)) ≡ true → office.new ≡ office.old }
+    ensures keeps { Keeps O.rows O.loan O.layers office.old office.new }
 {
     recall(office, lease).unwrap_or(0)
 }

@@ -10,21 +10,21 @@ use lending::lending_is_conserved;
 use office::{Office, leases};
 use shares::Share;
 
-// What a holder's shares of a resource join to; the empty share if there are none.
+/// What a holder's shares of a resource join to; the empty share if there are none.
 pub fn standing<O: Office>(office: &O, resource: u16, holder: u16) -> O::Kind
-    ensures does { Does O.Kind.Share.kind (O.Office.meaning office.now) (standing resource holder) (share result) (O.Office.meaning office.now) }
-    ensures joins { StandingJoins O.Kind.Share.kind (O.Office.meaning office.now) resource holder result }
-    ensures conserved { CallConserves O.Kind.Share.kind (O.Office.meaning office.now) (standing resource holder) (share result) (O.Office.meaning office.now) }
-    ensures always { LendingConserved O.Kind.Share.kind }
+    ensures does { Does O.Kind.kind (O.meaning office.now) (standing resource holder) (share result) (O.meaning office.now) }
+    ensures joins { StandingJoins O.Kind.kind (O.meaning office.now) resource holder result }
+    ensures conserved { CallConserves O.Kind.kind (O.meaning office.now) (standing resource holder) (share result) (O.meaning office.now) }
+    ensures always { LendingConserved O.Kind.kind }
 {
     lending_is_conserved::<O::Kind>();
     joined(office, resource, holder).unwrap_or(O::Kind::empty())
 }
 
-// Whether a holder may write a resource.
+/// Whether a holder may write a resource.
 pub fn may_write<O: Office>(office: &O, resource: u16, holder: u16) -> bool
-    ensures is { MayWrite O.Kind.Share.kind (O.Office.meaning office.now) resource holder result }
-    ensures always { LendingConserved O.Kind.Share.kind }
+    ensures is { MayWrite O.Kind.kind (O.meaning office.now) resource holder result }
+    ensures always { LendingConserved O.Kind.kind }
 {
     lending_is_conserved::<O::Kind>();
     standing(office, resource, holder) == O::Kind::whole()
@@ -32,7 +32,7 @@ pub fn may_write<O: Office>(office: &O, resource: u16, holder: u16) -> bool
 
 // The join of a holder's shares of a resource. In every state that calls reach there is one.
 fn joined<O: Office>(office: &O, resource: u16, holder: u16) -> Option<O::Kind>
-    ensures { result ≡ standing_of O.Kind.Share.kind (O.Office.meaning office.now).core.roll resource holder }
+    ensures { result ≡ standing_of O.Kind.kind (O.meaning office.now).core.roll resource holder }
 {
     let mut all = O::Kind::empty();
     for lease in leases(office) {

@@ -15,10 +15,8 @@ pub(crate) type Numbers = ArrayVec<u16, MOST_ROWS>;
 
 // Yields these leases from the last to the first. Where the definitions grant all of those yields, this leaves what they do.
 pub(crate) fn yield_down<O: Office>(office: &mut O, numbers: &[u16])
-    ensures leaves { (u : State O.Kind) → yields O.Kind.Share.kind (O.Office.meaning office.old) (reverse numbers.now) ≡ grants done u → (O.Office.meaning office.new).core ≡ u.core }
-    ensures unused { unused (O.Office.rows office.new) ≡ unused (O.Office.rows office.old) }
-    ensures layers { O.Office.layers office.new ≡ O.Office.layers office.old }
-    ensures lent { O.Office.lent office.new ≡ O.Office.lent office.old }
+    ensures leaves { (u : State O.Kind) → yields O.Kind.kind (O.meaning office.old) (reverse numbers.now) ≡ grants done u → (O.meaning office.new).core ≡ u.core }
+    ensures keeps { Keeps O.rows O.loan O.layers office.old office.new }
 {
     for number in numbers.iter().rev() {
         // it is granted, so that there is no refusal to pass on

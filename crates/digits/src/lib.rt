@@ -1,4 +1,4 @@
-// The decimal digits of a number.
+//! The decimal digits of a number.
 #![tactic(auto)]
 
 mod digits;

@@ -1,6 +1,6 @@
 -- Worked examples: of both kinds of share, and of an office.
 use Rattle.std.specs.Prelude.{◌≡◌, ℕ, List, Some, None, codes, Option}
-use Rattle.shares.specs.Kind.{then}
+use Rattle.shares.specs.Kind.{bind}
 use Rattle.trees.specs.declared.trees.Trees.{Trees}
 use Rattle.trees.specs.Tree.{node, ●, ○}
 use Rattle.trees.specs.Cells.{text_of_share, share, trees_of_cells, trees_kind}
@@ -10,11 +10,11 @@ use Rattle.examples.specs.Book.{WorkedBook}
 
 -- the texts of a share's halves, the half kept first
 abbrev pub printed_halves : Trees → Option (List ℕ × List ℕ)
-printed_halves s = then (trees_kind.halve s) (λ h. Some (text_of_share h.0, text_of_share h.1))
+printed_halves s = bind (trees_kind.halve s) (λ h. Some (text_of_share h.0, text_of_share h.1))
 
 -- the text of two shares joined
 abbrev pub printed_join : Trees → Trees → Option (List ℕ)
-printed_join a b = then (trees_kind.join a b) (λ c. Some (text_of_share c))
+printed_join a b = bind (trees_kind.join a b) (λ c. Some (text_of_share c))
 
 pub record WorkedExamples : Type 0 where
   -- `1` halves into `(10)` and `(01)`

@@ -1,5 +1,5 @@
 -- What a fickle office objects to, and when that flips.
-use Rattle.std.specs.Prelude.{ℕ, Bool, cond, not, List, None, Option}
+use Rattle.std.specs.Prelude.{ℕ, Bool, if◌then◌else◌, not, List, None, Option}
 use Rattle.lending.specs.declared.lease.Lease.{Lease}
 use Rattle.lending.specs.Office.{Request, State}
 use Rattle.lending.specs.Office.Request.{opening, delegating, assigning}
@@ -13,7 +13,7 @@ fickle_objects closed roll today (assigning lease holder) = None
 
 -- whether it is closed after a call: each granted one flips it
 abbrev pub flip : Bool → Bool → Bool
-flip granted closed = cond granted (not closed) closed
+flip granted closed = if granted then not closed else closed
 
 -- what it stands for over an office that stands for s: it is one deeper
 abbrev pub fickle_state : {S : Type 0} → Bool → State S → State S

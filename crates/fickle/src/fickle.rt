@@ -10,8 +10,8 @@ ghost use Rattle.fickle.specs.Objects.{fickle_objects, flip, fickle_state};
 use lending::{Lease, Reason, Refusal};
 use office::Office;
 
-// An office over another, with an objection of its own that no roll and no day tells: each granted call closes it to opens, or
-// lets them through again.
+/// An office over another, with an objection of its own that no roll and no day tells: each granted call closes it to opens, or
+/// lets them through again.
 #[derive(Drop)]
 pub struct Fickle<O> {
     below: O,
@@ -19,13 +19,13 @@ pub struct Fickle<O> {
 }
 
 impl<O: Office> Fickle<O> {
-    // The fickle office over another. It begins by letting opens through.
+    /// The fickle office over another. It begins by letting opens through.
     pub fn over(below: O) -> Fickle<O>
-        ensures stands { ⟦<Fickle<O> as Office>⟧.meaning result ≡ fickle_state false (O.Office.meaning below) }
-        ensures set_up { SetUp (O.Office.meaning below) → SetUp (⟦<Fickle<O> as Office>⟧.meaning result) }
-        ensures rows { ⟦<Fickle<O> as Office>⟧.rows result ≡ O.Office.rows below }
-        ensures lent { ⟦<Fickle<O> as Office>⟧.lent result ≡ O.Office.lent below }
-        ensures layers { ⟦<Fickle<O> as Office>⟧.layers result ≡ O.Office.layers below }
+        ensures stands { ⟦<Fickle<O> as Office>⟧.meaning result ≡ fickle_state false (O.meaning below) }
+        ensures set_up { SetUp (O.meaning below) → SetUp (⟦<Fickle<O> as Office>⟧.meaning result) }
+        ensures rows { ⟦<Fickle<O> as Office>⟧.rows result ≡ O.rows below }
+        ensures lent { ⟦<Fickle<O> as Office>⟧.loan result ≡ O.loan below }
+        ensures layers { ⟦<Fickle<O> as Office>⟧.layers result ≡ O.layers below }
     {
         Fickle {
             below,
@@ -35,7 +35,7 @@ impl<O: Office> Fickle<O> {
 
     // Refuses an open while it is closed.
     fn allow(&self, resource: u16, holder: u16) -> Result<(), Refusal>
-        ensures { let s = O.Office.meaning self.now.below in let mine = fickle_objects self.now.closed s.core.roll s.core.today (opening resource holder) in MatchResult result (λ x. mine ≡ None) (λ refusal. (mine ≡ Some (reason_number refusal.reason)) × (refusal.level ≡ 0)) }
+        ensures { let s = O.meaning self.now.below in let mine = fickle_objects self.now.closed s.core.roll s.core.today (opening resource holder) in MatchResult result (λ x. mine ≡ None) (λ refusal. (mine ≡ Some (reason_number refusal.reason)) × (refusal.level ≡ 0)) }
     {
         if self.closed {
             return Err(Reason::OverQuota.into());
@@ -60,15 +60,15 @@ impl<O: Office> Office for Fickle<O> {
 
     type Kind = O::Kind;
 
-    ghost meaning = { λ fickle. fickle_state fickle.closed (O.Office.meaning fickle.below) };
+    ghost meaning = { λ fickle. fickle_state fickle.closed (O.meaning fickle.below) };
 
-    ghost rows = { λ fickle. O.Office.rows fickle.below };
+    ghost rows = { λ fickle. O.rows fickle.below };
 
-    ghost lent = { λ fickle. O.Office.lent fickle.below };
+    ghost loan = { λ fickle. O.loan fickle.below };
 
-    ghost layers = { λ fickle. O.Office.layers fickle.below };
+    ghost layers = { λ fickle. O.layers fickle.below };
 
-    ghost lawful = { fickle_lawful O.Office.meaning O.Office.rows O.Office.lawful };
+    ghost lawful = { fickle_lawful O.meaning O.rows O.lawful };
 
     fn count(&self) -> usize {
         self.below.count()
@@ -92,12 +92,10 @@ impl<O: Office> Office for Fickle<O> {
 
     #[tactic(auto, using(crate::proofs::Turning::opened))]
     fn open(&mut self, resource: u16, holder: u16) -> Result<u16, Refusal>
-        ensures does { Does O.Kind.Share.kind (fickle_state self.old.closed (O.Office.meaning self.old.below)) (open_resource resource holder) (number_or_refused result) (fickle_state self.new.closed (O.Office.meaning self.new.below)) }
+        ensures does { Does O.Kind.kind (fickle_state self.old.closed (O.meaning self.old.below)) (open_resource resource holder) (number_or_refused result) (fickle_state self.new.closed (O.meaning self.new.below)) }
         ensures turns { self.new.closed ≡ flip (is_ok result) self.old.closed }
         ensures same { is_ok result ≡ false → self.new ≡ self.old }
-        ensures unused { unused (O.Office.rows self.new.below) ≡ unused (O.Office.rows self.old.below) }
-        ensures layers { O.Office.layers self.new.below ≡ O.Office.layers self.old.below }
-        ensures lent { O.Office.lent self.new.below ≡ O.Office.lent self.old.below }
+        ensures keeps { Keeps O.rows O.loan O.layers self.old.below self.new.below }
     {
         self.allow(resource, holder)?;
         let answer = self.below.open(resource, holder).map_err(Refusal::raised);
@@ -107,12 +105,10 @@ impl<O: Office> Office for Fickle<O> {
 
     #[tactic(auto, using(crate::proofs::Turning::delegated))]
     fn delegate(&mut self, lender: u16, holder: u16, due: u16) -> Result<u16, Refusal>
-        ensures does { Does O.Kind.Share.kind (fickle_state self.old.closed (O.Office.meaning self.old.below)) (delegate lender holder due) (number_or_refused result) (fickle_state self.new.closed (O.Office.meaning self.new.below)) }
+        ensures does { Does O.Kind.kind (fickle_state self.old.closed (O.meaning self.old.below)) (delegate lender holder due) (number_or_refused result) (fickle_state self.new.closed (O.meaning self.new.below)) }
         ensures turns { self.new.closed ≡ flip (is_ok result) self.old.closed }
         ensures same { is_ok result ≡ false → self.new ≡ self.old }
-        ensures unused { unused (O.Office.rows self.new.below) ≡ unused (O.Office.rows self.old.below) }
-        ensures layers { O.Office.layers self.new.below ≡ O.Office.layers self.old.below }
-        ensures lent { O.Office.lent self.new.below ≡ O.Office.lent self.old.below }
+        ensures keeps { Keeps O.rows O.loan O.layers self.old.below self.new.below }
     {
         let answer = self
             .below
@@ -124,12 +120,10 @@ impl<O: Office> Office for Fickle<O> {
 
     #[tactic(auto, using(crate::proofs::Turning::yielded))]
     fn yield_lease(&mut self, lease: u16) -> Result<(), Refusal>
-        ensures does { Does O.Kind.Share.kind (fickle_state self.old.closed (O.Office.meaning self.old.below)) (yield lease) (done_or_refused result) (fickle_state self.new.closed (O.Office.meaning self.new.below)) }
+        ensures does { Does O.Kind.kind (fickle_state self.old.closed (O.meaning self.old.below)) (yield lease) (done_or_refused result) (fickle_state self.new.closed (O.meaning self.new.below)) }
         ensures turns { self.new.closed ≡ flip (is_ok result) self.old.closed }
         ensures same { is_ok result ≡ false → self.new ≡ self.old }
-        ensures unused { unused (O.Office.rows self.new.below) ≡ unused (O.Office.rows self.old.below) }
-        ensures layers { O.Office.layers self.new.below ≡ O.Office.layers self.old.below }
-        ensures lent { O.Office.lent self.new.below ≡ O.Office.lent self.old.below }
+        ensures keeps { Keeps O.rows O.loan O.layers self.old.below self.new.below }
     {
         let answer = self.below.yield_lease(lease).map_err(Refusal::raised);
         self.turn(answer.is_ok());
@@ -138,12 +132,10 @@ impl<O: Office> Office for Fickle<O> {
 
     #[tactic(auto, using(crate::proofs::Turning::merged))]
     fn merge(&mut self, a: u16, b: u16) -> Result<(), Refusal>
-        ensures does { Does O.Kind.Share.kind (fickle_state self.old.closed (O.Office.meaning self.old.below)) (merge a b) (done_or_refused result) (fickle_state self.new.closed (O.Office.meaning self.new.below)) }
+        ensures does { Does O.Kind.kind (fickle_state self.old.closed (O.meaning self.old.below)) (merge a b) (done_or_refused result) (fickle_state self.new.closed (O.meaning self.new.below)) }
         ensures turns { self.new.closed ≡ flip (is_ok result) self.old.closed }
         ensures same { is_ok result ≡ false → self.new ≡ self.old }
-        ensures unused { unused (O.Office.rows self.new.below) ≡ unused (O.Office.rows self.old.below) }
-        ensures layers { O.Office.layers self.new.below ≡ O.Office.layers self.old.below }
-        ensures lent { O.Office.lent self.new.below ≡ O.Office.lent self.old.below }
+        ensures keeps { Keeps O.rows O.loan O.layers self.old.below self.new.below }
     {
         let answer = self.below.merge(a, b).map_err(Refusal::raised);
         self.turn(answer.is_ok());
@@ -152,12 +144,10 @@ impl<O: Office> Office for Fickle<O> {
 
     #[tactic(auto, using(crate::proofs::Turning::assigned))]
     fn assign(&mut self, lease: u16, holder: u16) -> Result<(), Refusal>
-        ensures does { Does O.Kind.Share.kind (fickle_state self.old.closed (O.Office.meaning self.old.below)) (assign lease holder) (done_or_refused result) (fickle_state self.new.closed (O.Office.meaning self.new.below)) }
+        ensures does { Does O.Kind.kind (fickle_state self.old.closed (O.meaning self.old.below)) (assign lease holder) (done_or_refused result) (fickle_state self.new.closed (O.meaning self.new.below)) }
         ensures turns { self.new.closed ≡ flip (is_ok result) self.old.closed }
         ensures same { is_ok result ≡ false → self.new ≡ self.old }
-        ensures unused { unused (O.Office.rows self.new.below) ≡ unused (O.Office.rows self.old.below) }
-        ensures layers { O.Office.layers self.new.below ≡ O.Office.layers self.old.below }
-        ensures lent { O.Office.lent self.new.below ≡ O.Office.lent self.old.below }
+        ensures keeps { Keeps O.rows O.loan O.layers self.old.below self.new.below }
     {
         let answer = self.below.assign(lease, holder).map_err(Refusal::raised);
         self.turn(answer.is_ok());
@@ -166,12 +156,10 @@ impl<O: Office> Office for Fickle<O> {
 
     #[tactic(auto, using(crate::proofs::Turning::day_set))]
     fn set_day(&mut self, day: u16) -> Result<(), Refusal>
-        ensures does { Does O.Kind.Share.kind (fickle_state self.old.closed (O.Office.meaning self.old.below)) (new_day day) (done_or_refused result) (fickle_state self.new.closed (O.Office.meaning self.new.below)) }
+        ensures does { Does O.Kind.kind (fickle_state self.old.closed (O.meaning self.old.below)) (new_day day) (done_or_refused result) (fickle_state self.new.closed (O.meaning self.new.below)) }
         ensures turns { self.new.closed ≡ flip (is_ok result) self.old.closed }
         ensures same { is_ok result ≡ false → self.new ≡ self.old }
-        ensures unused { unused (O.Office.rows self.new.below) ≡ unused (O.Office.rows self.old.below) }
-        ensures layers { O.Office.layers self.new.below ≡ O.Office.layers self.old.below }
-        ensures lent { O.Office.lent self.new.below ≡ O.Office.lent self.old.below }
+        ensures keeps { Keeps O.rows O.loan O.layers self.old.below self.new.below }
     {
         let answer = self.below.set_day(day).map_err(Refusal::raised);
         self.turn(answer.is_ok());

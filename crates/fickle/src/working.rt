@@ -16,7 +16,7 @@ use lending::{Lease, Refusal};
 use office::Office;
 use shares::Share;
 
-// What an office answered to an open, a recall and a list of calls.
+/// What an office answered to an open, a recall and a list of calls.
 #[derive(Clone, Copy, PartialEq, Eq, Debug, Drop)]
 pub struct Answers {
     pub opened: Result<u16, Refusal>,
@@ -24,7 +24,7 @@ pub struct Answers {
     pub closed: Tallies,
 }
 
-// Opens a resource, recalls a lease and makes a list of calls, at any office.
+/// Opens a resource, recalls a lease and makes a list of calls, at any office.
 #[tactic(auto, using(crate::proofs::Threefold::worked))]
 pub fn work<O: Office>(
     office: &mut O,
@@ -33,11 +33,9 @@ pub fn work<O: Office>(
     lease: u16,
     calls: &[Call],
 ) -> Answers
-    ensures worked { Worked O.Kind.Share.kind (SomeOffice O.Office.meaning O.Office.layers (O.Office.layers office.old)) (O.Office.meaning office.old) resource holder lease calls.now result (O.Office.meaning office.new) }
-    ensures unused { unused (O.Office.rows office.new) ≡ unused (O.Office.rows office.old) }
-    ensures layers { O.Office.layers office.new ≡ O.Office.layers office.old }
-    ensures lent { O.Office.lent office.new ≡ O.Office.lent office.old }
-    ensures always { LendingConserved O.Kind.Share.kind }
+    ensures worked { Worked O.Kind.kind (SomeOffice O.meaning O.layers (O.layers office.old)) (O.meaning office.old) resource holder lease calls.now result (O.meaning office.new) }
+    ensures keeps { Keeps O.rows O.loan O.layers office.old office.new }
+    ensures always { LendingConserved O.Kind.kind }
 {
     let opened = open(office, resource, holder);
     let recalled = recall(office, lease);
@@ -49,8 +47,8 @@ pub fn work<O: Office>(
     }
 }
 
-// The same at a fickle office over a new ledger. What it objects to in between follows from nothing that the definitions know, so
-// that its contract says of the last state only that there is one; a test pins when the office flips.
+/// The same at a fickle office over a new ledger. What it objects to in between follows from nothing that the definitions know, so
+/// that its contract says of the last state only that there is one; a test pins when the office flips.
 pub fn work_fickle<'a, S: Share>(
     rows: &'a mut [Lease<S>],
     resource: u16,

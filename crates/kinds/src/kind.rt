@@ -6,23 +6,23 @@ use std::fmt;
 use std::str::FromStr;
 use thiserror::Error;
 
-// The kinds of share.
+/// The kinds of share.
 #[derive(Clone, Copy, PartialEq, Eq, Debug, Drop)]
 pub enum KindOfShare {
     Trees,
     Counting,
 }
 
-// Their names, for a sentence.
+/// Their names, for a sentence.
 pub const KIND_NAMES: &str = "trees or counting";
 
-// The error of a name that no kind has.
+/// The error of a name that no kind has.
 #[derive(Clone, Copy, PartialEq, Eq, Debug, Drop, Error)]
 #[error("no kind of share has this name")]
 pub struct NoSuchKind;
 
 impl KindOfShare {
-    // The name of a kind.
+    /// The name of a kind.
     pub fn name(self) -> &'static str
         ensures { result.now ≡ kind_name self }
     {
@@ -32,7 +32,7 @@ impl KindOfShare {
         }
     }
 
-    // The kind that a byte of a book stands for, if it stands for one.
+    /// The kind that a byte of a book stands for, if it stands for one.
     pub fn of_byte(byte: u8) -> Option<KindOfShare>
         ensures is { result ≡ kind_of_byte byte }
         ensures byte { IfSome result (λ kind. kind_byte kind ≡ byte) }
@@ -69,8 +69,8 @@ impl FromStr for KindOfShare {
     }
 }
 
-// Calls a function over any kind of share at the kind that a value names. A caller has all of this crate in scope. It is a
-// macro, since a closure, a `dyn` or a function pointer has one type, and what is called is generic in the kind.
+/// Calls a function over any kind of share at the kind that a value names. A caller has all of this crate in scope. It is a
+/// macro, since a closure, a `dyn` or a function pointer has one type, and what is called is generic in the kind.
 #[macro_export]
 macro_rules! of_kind {
     ($kind:expr, $call:ident($($x:expr),*)) => {

@@ -1,4 +1,4 @@
-// The kinds of share that the house uses. This crate alone lists them: a new kind is added here.
+//! The kinds of share that the house uses. This crate alone lists them: a new kind is added here.
 #![tactic(auto)]
 
 mod kind;

@@ -9,7 +9,7 @@ use crate::rule::{Request, Rule};
 use lending::{Lease, Refusal};
 use office::{Office, Piled};
 
-// An office over another, which objects by a rule.
+/// An office over another, which objects by a rule.
 #[derive(Drop)]
 pub struct Layer<O, R> {
     below: O,
@@ -17,26 +17,26 @@ pub struct Layer<O, R> {
 }
 
 impl<O: Office, R: Rule<O>> Layer<O, R> {
-    // The layer over an office, with its rule.
+    /// The layer over an office, with its rule.
     pub fn new(below: O, rule: R) -> Layer<O, R>
-        ensures stands { ⟦<Layer<O, R> as Office>⟧.meaning result ≡ layered (R.Rule.objects rule) (O.Office.meaning below) }
-        ensures set_up { SetUp (O.Office.meaning below) → SetUp (⟦<Layer<O, R> as Office>⟧.meaning result) }
-        ensures rows { ⟦<Layer<O, R> as Office>⟧.rows result ≡ O.Office.rows below }
-        ensures lent { ⟦<Layer<O, R> as Office>⟧.lent result ≡ O.Office.lent below }
-        ensures layers { ⟦<Layer<O, R> as Office>⟧.layers result ≡ R.Rule.objects rule ∷ O.Office.layers below }
+        ensures stands { ⟦<Layer<O, R> as Office>⟧.meaning result ≡ layered (R.objects rule) (O.meaning below) }
+        ensures set_up { SetUp (O.meaning below) → SetUp (⟦<Layer<O, R> as Office>⟧.meaning result) }
+        ensures rows { ⟦<Layer<O, R> as Office>⟧.rows result ≡ O.rows below }
+        ensures lent { ⟦<Layer<O, R> as Office>⟧.loan result ≡ O.loan below }
+        ensures layers { ⟦<Layer<O, R> as Office>⟧.layers result ≡ R.objects rule ∷ O.layers below }
     {
         Layer { below, rule }
     }
 
-    // Ends the layer and gives back the office below, as it is.
+    /// Ends the layer and gives back the office below, as it is.
     pub fn into_below(self) -> O
     where
         R: Drop,
         ensures is { result ≡ self.below }
-        ensures stands { ⟦<Layer<O, R> as Office>⟧.meaning self ≡ layered (R.Rule.objects self.rule) (O.Office.meaning result) }
-        ensures rows { ⟦<Layer<O, R> as Office>⟧.rows self ≡ O.Office.rows result }
-        ensures lent { ⟦<Layer<O, R> as Office>⟧.lent self ≡ O.Office.lent result }
-        ensures layers { ⟦<Layer<O, R> as Office>⟧.layers self ≡ R.Rule.objects self.rule ∷ O.Office.layers result }
+        ensures stands { ⟦<Layer<O, R> as Office>⟧.meaning self ≡ layered (R.objects self.rule) (O.meaning result) }
+        ensures rows { ⟦<Layer<O, R> as Office>⟧.rows self ≡ O.rows result }
+        ensures lent { ⟦<Layer<O, R> as Office>⟧.loan self ≡ O.loan result }
+        ensures layers { ⟦<Layer<O, R> as Office>⟧.layers self ≡ R.objects self.rule ∷ O.layers result }
     {
         let Layer { below, .. } = self;
         below
@@ -44,7 +44,7 @@ impl<O: Office, R: Rule<O>> Layer<O, R> {
 
     // Refuses what the rule objects to.
     fn allow(&self, request: Request) -> Result<(), Refusal>
-        ensures { let s = O.Office.meaning self.now.below in let mine = R.Rule.objects self.now.rule s.core.roll s.core.today (request_meant request) in MatchResult result (λ x. mine ≡ None) (λ refusal. (mine ≡ Some (reason_number refusal.reason)) × (refusal.level ≡ 0)) }
+        ensures { let s = O.meaning self.now.below in let mine = R.objects self.now.rule s.core.roll s.core.today (request_meant request) in MatchResult result (λ x. mine ≡ None) (λ refusal. (mine ≡ Some (reason_number refusal.reason)) × (refusal.level ≡ 0)) }
     {
         match self.rule.objection(&self.below, request) {
             Some(reason) => Err(reason.into()),
@@ -56,15 +56,15 @@ impl<O: Office, R: Rule<O>> Layer<O, R> {
 impl<O: Office, R: Rule<O>> Office for Layer<O, R> {
     type Kind = O::Kind;
 
-    ghost meaning = { λ layer. layered (R.Rule.objects layer.rule) (O.Office.meaning layer.below) };
+    ghost meaning = { λ layer. layered (R.objects layer.rule) (O.meaning layer.below) };
 
-    ghost rows = { λ layer. O.Office.rows layer.below };
+    ghost rows = { λ layer. O.rows layer.below };
 
-    ghost lent = { λ layer. O.Office.lent layer.below };
+    ghost loan = { λ layer. O.loan layer.below };
 
-    ghost layers = { λ layer. R.Rule.objects layer.rule ∷ O.Office.layers layer.below };
+    ghost layers = { λ layer. R.objects layer.rule ∷ O.layers layer.below };
 
-    ghost lawful = { layer_lawful O.Office.meaning O.Office.rows R.Rule.objects O.Office.lawful };
+    ghost lawful = { layer_lawful O.meaning O.rows R.objects O.lawful };
 
     fn count(&self) -> usize {
         self.below.count()
@@ -124,5 +124,5 @@ impl<O: Office, R: Rule<O>> Office for Layer<O, R> {
 }
 
 impl<O: Piled, R: Rule<O>> Piled for Layer<O, R> {
-    ghost follow = { layer_follows O.Office.meaning O.Office.layers R.Rule.objects O.Piled.follow };
+    ghost follow = { layer_follows O.meaning O.layers R.objects O.follow };
 }

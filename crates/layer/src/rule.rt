@@ -7,7 +7,7 @@ ghost use Rattle.layer.specs.Requests.{request_meant};
 use lending::Reason;
 use office::Office;
 
-// What a layer may object to.
+/// What a layer may object to.
 #[derive(Clone, Copy)]
 pub enum Request {
     Open { resource: u16, holder: u16 },
@@ -15,12 +15,12 @@ pub enum Request {
     Assign { lease: u16, holder: u16 },
 }
 
-// What a layer adds to an office: its own objections.
+/// What a layer adds to an office: its own objections.
 pub trait Rule<O: Office> {
-    // What it objects to, by the roll and today of the office below: the number of a reason, or none.
+    /// What it objects to, by the roll and today of the office below: the number of a reason, or none.
     ghost objects: { Self → Own O.Kind };
 
-    // The reason why it objects to a request, if it does.
+    /// The reason why it objects to a request, if it does.
     fn objection(&self, below: &O, request: Request) -> Option<Reason>
-        ensures { option_map reason_number result ≡ objects self.now (O.Office.meaning below.now).core.roll (O.Office.meaning below.now).core.today (request_meant request) };
+        ensures { option_map reason_number result ≡ objects self.now (O.meaning below.now).core.roll (O.meaning below.now).core.today (request_meant request) };
 }

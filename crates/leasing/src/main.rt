@@ -1,4 +1,4 @@
-// Takes calls to an office, a line each, and prints each call, its answer and the roll after it.
+//! Takes calls to an office, a line each, and prints each call, its answer and the roll after it.
 #![tactic(auto)]
 
 mod answer;

@@ -9,8 +9,8 @@ ghost use Rattle.lending.specs.Roll.{relend};
 use lending::{Lease, MOST_ROWS, NEVER_DUE, join_or_keep};
 use shares::Share;
 
-// One ledger over rows that are lent to it, for every kind of share. It uses the first 1,024 rows, or all if fewer, and
-// keeps the roll in the first of them: a count beside the rows, and no Vec, since an office has no heap.
+/// One ledger over rows that are lent to it, for every kind of share. It uses the first 1,024 rows, or all if fewer, and
+/// keeps the roll in the first of them: a count beside the rows, and no Vec, since an office has no heap.
 #[derive(Drop)]
 pub struct Ledger<'a, S> {
     rows: &'a mut [Lease<S>],
@@ -35,7 +35,7 @@ impl<'a, S: Share> Ledger<'a, S> {
     ghost use Rattle.ledger.specs.Rows.{At, Looked};
     ghost use Rattle.ledger.specs.Means.{means, rows_of, loan_of, Stands};
 
-    // A ledger over these rows, set up empty: no leases, nothing issued, and today is day 0.
+    /// A ledger over these rows, set up empty: no leases, nothing issued, and today is day 0.
     pub fn new(rows: &'a mut [Lease<S>]) -> Ledger<'a, S>
         ensures stands { means result ≡ new_ledger (min most_rows (length rows.old)) }
         ensures set_up { SetUp (means result) }
@@ -50,7 +50,7 @@ impl<'a, S: Share> Ledger<'a, S> {
         }
     }
 
-    // Ends the ledger and gives its rows back, as they are: the roll stands in the first of them.
+    /// Ends the ledger and gives its rows back, as they are: the roll stands in the first of them.
     pub fn into_rows(self) -> &'a mut [Lease<S>]
         ensures rows { result.now ≡ rows_of self.entry }
         ensures lent { result.ghost_name ≡ loan_of self.entry }
@@ -168,7 +168,7 @@ impl<'a, S: Share> Ledger<'a, S> {
         requires number { self.old.issued < last_number }
         requires row { rows_full (means self.old) ≡ false }
         ensures number { result ≡ self.old.issued + 1 }
-        ensures stands { Stands self.new self.old (issue (first_lease S.Share.kind (self.old.issued + 1) resource holder) (means self.old)).core }
+        ensures stands { Stands self.new self.old (issue (first_lease S.kind (self.old.issued + 1) resource holder) (means self.old)).core }
     {
         self.issue(Lease {
             number: self.issued + 1,
@@ -207,7 +207,7 @@ impl<'a, S: Share> Ledger<'a, S> {
     // Closes a lease, and joins its share to its lender's.
     fn take_back(&mut self, closed: Lease<S>)
         requires { find (means self.old).core.roll closed.number ≡ Some closed }
-        ensures { Stands self.new self.old (after_yield S.Share.kind (means self.old) closed).core }
+        ensures { Stands self.new self.old (after_yield S.kind (means self.old) closed).core }
     {
         self.close(closed.number);
         if let Some(lender) = self.find(closed.lender) {
@@ -222,7 +222,7 @@ impl<'a, S: Share> Ledger<'a, S> {
         requires b { find (means self.old).core.roll b.number ≡ Some b }
         requires order { a.number < b.number }
         requires alike { unlike a b ≡ false }
-        ensures { Stands self.new self.old (after_merge S.Share.kind (means self.old) a b).core }
+        ensures { Stands self.new self.old (after_merge S.kind (means self.old) a b).core }
     {
         let share = join_or_keep(a.share, b.share);
         self.close(b.number);

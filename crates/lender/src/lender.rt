@@ -15,8 +15,8 @@ use quota::Quota;
 use shares::Share;
 use term::Term;
 
-// Lends rows to a new office, Quota on Term on Chain on a ledger, makes a list of calls to it, and ends it. Answers how many
-// leases the calls closed. The roll then stands in the first of the rows.
+/// Lends rows to a new office, Quota on Term on Chain on a ledger, makes a list of calls to it, and ends it. Answers how many
+/// leases the calls closed. The roll then stands in the first of the rows.
 pub fn lend_rows<S: Share>(
     rows: &mut [Lease<S>],
     quota: u16,
@@ -55,10 +55,10 @@ fn make_in<'a, S: Share>(
 
 // The calls made through the three layers over an office. Gives that office back, beside the tallies.
 fn make_over<O: Piled>(below: O, quota: u16, term: u16, chain: u16, calls: &[Call]) -> (Tallies, O)
-    ensures played { let ls = layers quota term chain in CallsPlayed O.Kind.Share.kind (ls ++ O.Office.layers below) (pile ls (O.Office.meaning below)) calls.now result.0 (play_in_turn O.Kind.Share.kind (ls ++ O.Office.layers below) (pile ls (O.Office.meaning below)) calls.now).1 }
-    ensures roll { let ls = layers quota term chain in (O.Office.meaning result.1).core.roll ≡ (play_in_turn O.Kind.Share.kind (ls ++ O.Office.layers below) (pile ls (O.Office.meaning below)) calls.now).1.core.roll }
-    ensures unused { unused (O.Office.rows result.1) ≡ unused (O.Office.rows below) }
-    ensures lent { O.Office.lent result.1 ≡ O.Office.lent below }
+    ensures played { let ls = layers quota term chain in CallsPlayed O.Kind.kind (ls ++ O.layers below) (pile ls (O.meaning below)) calls.now result.0 (play_in_turn O.Kind.kind (ls ++ O.layers below) (pile ls (O.meaning below)) calls.now).1 }
+    ensures roll { let ls = layers quota term chain in (O.meaning result.1).core.roll ≡ (play_in_turn O.Kind.kind (ls ++ O.layers below) (pile ls (O.meaning below)) calls.now).1.core.roll }
+    ensures unused { unused (O.rows result.1) ≡ unused (O.rows below) }
+    ensures lent { O.loan result.1 ≡ O.loan below }
 {
     let mut office = pile_over(below, quota, term, chain);
     let tallies = make_piled(&mut office, calls);
@@ -72,19 +72,19 @@ fn pile_over<O: Office>(
     term: u16,
     chain: u16,
 ) -> Layer<Layer<Layer<O, Chain>, Term>, Quota>
-    ensures stands { ⟦<Layer<Layer<Layer<O, Chain>, Term>, Quota> as Office>⟧.meaning result ≡ pile (layers quota term chain) (O.Office.meaning below) }
-    ensures layers { ⟦<Layer<Layer<Layer<O, Chain>, Term>, Quota> as Office>⟧.layers result ≡ layers quota term chain ++ O.Office.layers below }
-    ensures rows { ⟦<Layer<Layer<Layer<O, Chain>, Term>, Quota> as Office>⟧.rows result ≡ O.Office.rows below }
-    ensures lent { ⟦<Layer<Layer<Layer<O, Chain>, Term>, Quota> as Office>⟧.lent result ≡ O.Office.lent below }
+    ensures stands { ⟦<Layer<Layer<Layer<O, Chain>, Term>, Quota> as Office>⟧.meaning result ≡ pile (layers quota term chain) (O.meaning below) }
+    ensures layers { ⟦<Layer<Layer<Layer<O, Chain>, Term>, Quota> as Office>⟧.layers result ≡ layers quota term chain ++ O.layers below }
+    ensures rows { ⟦<Layer<Layer<Layer<O, Chain>, Term>, Quota> as Office>⟧.rows result ≡ O.rows below }
+    ensures lent { ⟦<Layer<Layer<Layer<O, Chain>, Term>, Quota> as Office>⟧.loan result ≡ O.loan below }
 {
     Quota::over(Term::over(Chain::over(below, chain), term), quota)
 }
 
 // Makes the calls at an office whose objections follow from its layers, so that what they come to is worked out.
 fn make_piled<O: Piled>(office: &mut O, calls: &[Call]) -> Tallies
-    ensures played { CallsPlayed O.Kind.Share.kind (O.Office.layers office.old) (O.Office.meaning office.old) calls.now result (O.Office.meaning office.new) }
-    ensures unused { unused (O.Office.rows office.new) ≡ unused (O.Office.rows office.old) }
-    ensures lent { O.Office.lent office.new ≡ O.Office.lent office.old }
+    ensures played { CallsPlayed O.Kind.kind (O.layers office.old) (O.meaning office.old) calls.now result (O.meaning office.new) }
+    ensures unused { unused (O.rows office.new) ≡ unused (O.rows office.old) }
+    ensures lent { O.loan office.new ≡ O.loan office.old }
 {
     make_all(office, calls)
 }

@@ -1,4 +1,4 @@
-// Whoever lends rows to an office finds its roll in them once the office is gone.
+//! Whoever lends rows to an office finds its roll in them once the office is gone.
 #![tactic(auto)]
 
 mod lender;

@@ -1,11 +1,11 @@
 -- Parts of a join: what can be added to the whole, what nothing consists of, and what of a defined join is defined.
 use Rattle.std.proofs.Common.{◌≡◌, ℕ, List, Some, None, Option, refl, ap, ◌∙◌, arith}
-use Rattle.shares.specs.Kind.{Kind, Laws, then}
+use Rattle.shares.specs.Kind.{Kind, Laws, bind}
 use Rattle.shares.specs.Joins.{JoinTo, together}
 use Rattle.shares.proofs.Sums.{plus?, nothing, any_way}
 
 module _ {S : Type 0} (K : Kind S) where
-  pub plus_then : (x y : Option S) → then x (λ a. then y (λ b. K.join a b)) ≡ plus? K x y
+  pub plus_then : (x y : Option S) → bind x (λ a. bind y (λ b. K.join a b)) ≡ plus? K x y
   unfolding plus?
   plus_then x y = refl
 

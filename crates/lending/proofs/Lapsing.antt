@@ -4,7 +4,7 @@ use Rattle.std.specs.List.{filter}
 use mathlib.Core.List.{Memᴰ}
 use Rattle.std.proofs.lemmas.Bool.{leb-true, leb-false}
 use Rattle.lending.specs.declared.lease.Lease.{Lease}
-use Rattle.shares.specs.Kind.{Kind, Laws, then}
+use Rattle.shares.specs.Kind.{Kind, Laws, bind}
 use Rattle.lending.specs.Office.{Core, State, with_roll, with_today}
 use Rattle.lending.specs.Roll.{with_share}
 use Rattle.lending.specs.Above.{downward}
@@ -22,7 +22,7 @@ use Rattle.lending.proofs.Returning.{inv_sweeps, closed_from, joined}
 module _ {S : Type 0} (K : Kind S) (L : Laws K) (ms : List (Moment S)) where
   together_total : (ls : List (Lease S)) → lent_together K ms ls ≡ total K (λ l. lent K ms l.number) ls
   together_total [] = refl
-  together_total (l ∷ ls) = ap (λ (o : Option S). then (lent K ms l.number) (λ x. then o (λ y. K.join x y))) (together_total ls) ∙ plus_then K (lent K ms l.number) (total K (λ z. lent K ms z.number) ls)
+  together_total (l ∷ ls) = ap (λ (o : Option S). bind (lent K ms l.number) (λ x. bind o (λ y. K.join x y))) (together_total ls) ∙ plus_then K (lent K ms l.number) (total K (λ z. lent K ms z.number) ls)
 
   abbrev P : List (Lease S) → ℕ → Type 0
   P roll issued = Inv K roll issued (lent K ms)

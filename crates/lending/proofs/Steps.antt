@@ -6,7 +6,7 @@ use mathlib.Core.Option as maybe
 use lib.ListN.{length-map, get_elem?}
 use Rattle.std.proofs.lemmas.Bool.{eqb-true, eqb-false, eq-eqb, ne_eqb, cond-true, cond-false, or_parts, leb-false, ltb-false, not-false}
 use Rattle.lending.specs.declared.lease.Lease.{Lease}
-use Rattle.shares.specs.Kind.{Kind, Laws, then}
+use Rattle.shares.specs.Kind.{Kind, Laws, bind}
 use Rattle.lending.specs.Office.{Refusal, State, issue, with_roll, with_today}
 use Rattle.lending.specs.Outcome.{Call, Answer, Outcome, refused_at, unless, unless_objected, need_live, need_halves, tell_at, and_then, answering}
 use Rattle.lending.specs.Roll.{find, live, change, close, lends, is_open, with_share, with_holder, plus, family}
@@ -123,10 +123,10 @@ module _ {S : Type 0} (K : Kind S) (L : Laws K) where
             );
           }
 
-  pub after_yield : (s : State S) (lt : ℕ → Option S) (j k : ℕ) (o : Outcome S) (f : State S → Outcome S) → Yielding s lt j o → ((t : State S) → Inv K t.core.roll t.core.issued lt → Yielding t lt k (f t)) → Yielding s lt (j + k) (and_then o f)
-  after_yield s lt j k (refuses r) f y h = record { is = tt }
-  after_yield s lt j k (tells a) f y h = absurd y.is
-  after_yield s lt j k (grants a t) f y h = go (f t) (h t y.is.1)
+  pub yields_after : (s : State S) (lt : ℕ → Option S) (j k : ℕ) (o : Outcome S) (f : State S → Outcome S) → Yielding s lt j o → ((t : State S) → Inv K t.core.roll t.core.issued lt → Yielding t lt k (f t)) → Yielding s lt (j + k) (and_then o f)
+  yields_after s lt j k (refuses r) f y h = record { is = tt }
+  yields_after s lt j k (tells a) f y h = absurd y.is
+  yields_after s lt j k (grants a t) f y h = go (f t) (h t y.is.1)
     where
       go : (o : Outcome S) → Yielding t lt k o → Yielding s lt (j + k) o
       go (refuses r) z = record { is = tt }
@@ -138,7 +138,7 @@ module _ {S : Type 0} (K : Kind S) (L : Laws K) where
 
   pub yields_yield : (lt : ℕ → Option S) (ns : List ℕ) (s : State S) → Inv K s.core.roll s.core.issued lt → Yielding s lt (length ns) (yields K s ns)
   yields_yield lt [] s I = record { is = (refl, I, record { issued = refl; old = λ n x. x; count = omega arith }) }
-  yields_yield lt (n ∷ ns) s I = subst (λ (k : ℕ). Yielding s lt k (yields K s (n ∷ ns))) (omega arith) (after_yield s lt 1 (length ns) (do_yield K s n) (λ t. yields K t ns) (yield_yields s lt I n) (λ t J. yields_yield lt ns t J))
+  yields_yield lt (n ∷ ns) s I = subst (λ (k : ℕ). Yielding s lt k (yields K s (n ∷ ns))) (omega arith) (yields_after s lt 1 (length ns) (do_yield K s n) (λ t. yields K t ns) (yield_yields s lt I n) (λ t J. yields_yield lt ns t J))
 
   module _ (s : State S) (lt : ℕ → Option S) (I : Inv K s.core.roll s.core.issued lt) where
     stay : Moves s.core.roll s.core.issued s.core.roll s.core.issued 0
@@ -211,7 +211,7 @@ module _ {S : Type 0} (K : Kind S) (L : Laws K) where
         end : (l : Lease S) → find s.core.roll p ≡ Some l → bad_due_day s l d ≡ false → (kept lent : S) → K.halve l.share ≡ Some (kept, lent) → P (out₃ l kept lent)
         end l found e₂ kept lent cut =
             let f = find_in s.core.roll p l found in
-            let half : half_lent K s p ≡ Some lent = ap (λ (o : Option (Lease S)). then o (λ y. then (K.halve y.share) (λ z. Some z.1))) found ∙ ap (λ (o : Option (S × S)). then o (λ z. Some z.1)) cut in
+            let half : half_lent K s p ≡ Some lent = ap (λ (o : Option (Lease S)). bind o (λ y. bind (K.halve y.share) (λ z. Some z.1))) found ∙ ap (λ (o : Option (S × S)). bind o (λ z. Some z.1)) cut in
             let by : d ≤ l.due = ltb-false l.due d (or_parts (ltb l.due d) (ltb 9999 d) (or_parts (leb d s.core.today) (ltb l.due d || ltb 9999 d) e₂).1).0 in
             record {
               is = (
@@ -259,14 +259,14 @@ module _ {S : Type 0} (K : Kind S) (L : Laws K) where
             let p₂ = or_parts (eqb x.lender 0) (not (eqb x.holder y.holder) || not (eqb x.due y.due)) p₁.1 in
             let p₃ = or_parts (not (eqb x.holder y.holder)) (not (eqb x.due y.due)) p₂.1 in
             let lt' : ℕ → Option S = lent_by K s (merge a b) done lt in
-            let got : lt' x.number ≡ plus? K (lt x.number) (lt y.number) = cond-true (eqb a x.number) (then (lt a) (λ u. then (lt b) (λ v. K.join u v))) (lt x.number) (eq-eqb a x.number (sym xn)) ∙ plus_then K (lt a) (lt b) ∙ ap₂ (λ (m n : ℕ). plus? K (lt m) (lt n)) (sym xn) (sym yn) in
+            let got : lt' x.number ≡ plus? K (lt x.number) (lt y.number) = cond-true (eqb a x.number) (bind (lt a) (λ u. bind (lt b) (λ v. K.join u v))) (lt x.number) (eq-eqb a x.number (sym xn)) ∙ plus_then K (lt a) (lt b) ∙ ap₂ (λ (m n : ℕ). plus? K (lt m) (lt n)) (sym xn) (sym yn) in
             let len₁ = length-map (change x.number (with_share (plus K x.share y.share)) (close y.number s.core.roll)) (relent x.number y.number) in
             let len₂ = length-map (close y.number s.core.roll) (λ z. cond (eqb z.number x.number) (with_share (plus K x.share y.share) z) z) in
             let len₃ = length_close 0 s.core.roll I.rising y g.0 in
             record {
               is = (
                 inv_merge K L I x y f.0 g.0 less (eqb-true x.lender y.lender (not-false (eqb x.lender y.lender) p₁.0)) (eqb-false x.lender 0 p₂.0) (eqb-true x.due y.due (not-false (eqb x.due y.due) p₃.1)) lt' got
-                    (λ n h. cond-false (eqb a n) (then (lt a) (λ u. then (lt b) (λ v. K.join u v))) (lt n) (ne_eqb a n (λ z. h (sym z ∙ sym xn)))),
+                    (λ n h. cond-false (eqb a n) (bind (lt a) (λ u. bind (lt b) (λ v. K.join u v))) (lt n) (ne_eqb a n (λ z. h (sym z ∙ sym xn)))),
                 record {
                   old = λ n z. let m = mem_map (relent x.number y.number) (change x.number (with_share (plus K x.share y.share)) (close y.number s.core.roll)) z.0 z.1 in
                       let w = source (close y.number s.core.roll) x.number (with_share (plus K x.share y.share)) (λ l. record { number = refl; resource = refl; lender = refl; due = refl }) m.0 m.1 in

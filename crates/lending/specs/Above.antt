@@ -1,5 +1,5 @@
 -- What the calls do that stand over any office. They refuse at level 0.
-use Rattle.std.specs.Prelude.{ℕ, cond, not, List, [], ◌∷◌, map, reverse, length, Option}
+use Rattle.std.specs.Prelude.{ℕ, if◌then◌else◌, not, List, [], ◌∷◌, map, reverse, length, Option}
 use Rattle.std.specs.List.{filter}
 use Rattle.shares.specs.Kind.{Kind}
 use Rattle.shares.specs.Joins.{together}
@@ -41,4 +41,4 @@ module _ {S : Type 0} where
 
   -- a slip for a live lease recalls it, any other does nothing
   abbrev pub do_hand_in : Kind S → State S → ℕ → Outcome S
-  do_hand_in K s n = cond (live s.core.roll n) (recall_all K s n) (tells (number 0))
+  do_hand_in K s n = if live s.core.roll n then recall_all K s n else tells (number 0)

@@ -2,7 +2,7 @@
 -- yields leave, and what lenders get back by them.
 use Rattle.std.specs.Prelude.{◌≡◌, ℕ, ◌<◌, Bool, T, not, ◌&&◌, ◌||◌, ◌↔◌, List, [], ◌∷◌, map, Some, Option, ◌==◌, ◌≢◌}
 use Rattle.std.specs.List.{filter}
-use Rattle.shares.specs.Kind.{Kind, then}
+use Rattle.shares.specs.Kind.{Kind, bind}
 use Rattle.lending.specs.declared.lease.Lease.{Lease}
 use Rattle.lending.specs.Office.{State, SetUp, with_roll, with_today}
 use Rattle.lending.specs.Roll.{find, under, change, with_share, plus}
@@ -40,7 +40,7 @@ module _ {S : Type 0} where
   -- what some leases were lent, all together
   abbrev pub lent_together : Kind S → List (Moment S) → List (Lease S) → Option S
   lent_together K ms [] = Some K.empty
-  lent_together K ms (l ∷ ls) = then (lent K ms l.number) (λ x. then (lent_together K ms ls) (λ y. K.join x y))
+  lent_together K ms (l ∷ ls) = bind (lent K ms l.number) (λ x. bind (lent_together K ms ls) (λ y. K.join x y))
 
   -- the leases that n lent and that fall due by day d
   abbrev pub due_from : List (Lease S) → ℕ → ℕ → List (Lease S)

@@ -1,6 +1,6 @@
 -- Lists of calls to an office: what each lease was lent, and what was closed by which calls.
-use Rattle.std.specs.Prelude.{◌≡◌, ℕ, ◌+◌, cond, not, ◌&&◌, List, [], ◌∷◌, Some, None, Option, ◌==◌}
-use Rattle.shares.specs.Kind.{Kind, then}
+use Rattle.std.specs.Prelude.{◌≡◌, ℕ, ◌+◌, if◌then◌else◌, not, ◌&&◌, List, [], ◌∷◌, Some, None, Option, ◌==◌}
+use Rattle.shares.specs.Kind.{Kind, bind}
 use Rattle.lending.specs.Office.{State}
 use Rattle.lending.specs.Roll.{find, live}
 use Rattle.lending.specs.Outcome.{Call, Answer}
@@ -64,14 +64,14 @@ module _ {S : Type 0} where
 
   -- the half that the lender of this number lends in this state
   abbrev pub half_lent : Kind S → State S → ℕ → Option S
-  half_lent K s p = then (find s.core.roll p) (λ l. then (K.halve l.share) (λ h. Some h.1))
+  half_lent K s p = bind (find s.core.roll p) (λ l. bind (K.halve l.share) (λ h. Some h.1))
 
   -- what lease n was lent after the call, by what each lease was lent before it
   abbrev pub lent_by : Kind S → State S → Call → Answer S → (ℕ → Option S) → ℕ → Option S
-  lent_by K s (open_resource r h) a earlier n = if_number a (λ k. cond (k == n) (Some K.whole) (earlier n)) (earlier n)
-  lent_by K s (delegate p h d) a earlier n = if_number a (λ k. cond (k == n) (half_lent K s p) (earlier n)) (earlier n)
+  lent_by K s (open_resource r h) a earlier n = if_number a (λ k. if k == n then Some K.whole else earlier n) (earlier n)
+  lent_by K s (delegate p h d) a earlier n = if_number a (λ k. if k == n then half_lent K s p else earlier n) (earlier n)
   lent_by K s (yield l) a earlier n = earlier n
-  lent_by K s (merge x y) a earlier n = if_done a (cond (x == n) (then (earlier x) (λ u. then (earlier y) (λ v. K.join u v))) (earlier n)) (earlier n)
+  lent_by K s (merge x y) a earlier n = if_done a (if x == n then bind (earlier x) (λ u. bind (earlier y) (λ v. K.join u v)) else earlier n) (earlier n)
   lent_by K s (assign l h) a earlier n = earlier n
   lent_by K s (new_day d) a earlier n = earlier n
   lent_by K s ask_count a earlier n = earlier n
@@ -128,7 +128,7 @@ module _ {S : Type 0} where
 
   -- 1 if lease n leaves the roll between s and t
   abbrev pub closed_between : State S → State S → ℕ → ℕ
-  closed_between s t n = cond (live s.core.roll n && not (live t.core.roll n)) 1 0
+  closed_between s t n = if live s.core.roll n && not (live t.core.roll n) then 1 else 0
 
   -- how often number n was closed in a list of calls that led to t
   abbrev pub closings : List (Moment S) → State S → ℕ → ℕ

@@ -1,5 +1,5 @@
 -- A layer over an office: its own objections come first, and everything else is passed down and up.
-use Rattle.std.specs.Prelude.{◌≡◌, ℕ, ◌+◌, min, Bool, cond, List, [], ◌∷◌, Some, None, Option}
+use Rattle.std.specs.Prelude.{◌≡◌, ℕ, ◌+◌, min, Bool, if◌then◌else◌, List, [], ◌∷◌, Some, None, Option}
 use Rattle.shares.specs.Kind.{Kind}
 use Rattle.lending.specs.declared.lease.Lease.{Lease}
 use Rattle.lending.specs.Limits.{most_layers}
@@ -12,7 +12,7 @@ use Rattle.lending.specs.Perform.{Does}
 
 -- a refusal's number where a test says so
 abbrev pub number_if : Bool → ℕ → Option ℕ
-number_if b n = cond b (Some n) None
+number_if b n = if b then Some n else None
 
 -- the next level up; nobody piles more than 255 layers, and there the levels end
 abbrev pub up : ℕ → ℕ

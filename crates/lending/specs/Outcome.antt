@@ -1,5 +1,5 @@
 -- The calls, how a call ends, and the checks that refuse one.
-use Rattle.std.specs.Prelude.{ℕ, min, Bool, cond, List, [], ◌∷◌, Some, None, Option}
+use Rattle.std.specs.Prelude.{ℕ, min, Bool, true, false, if◌then◌else◌, List, [], ◌∷◌, Some, None, Option}
 use Rattle.std.proofs.Math.Option as maybe
 use Rattle.lending.specs.declared.lease.Lease.{Lease}
 use Rattle.lending.specs.Limits.{most_layers}
@@ -42,11 +42,16 @@ pub data Outcome (S : Type 0) : Type 0 where
 abbrev pub refused_at : ℕ → ℕ → Refusal
 refused_at depth n = record { number = n; level = min depth most_layers }
 
+-- the answer is a refusal
+abbrev pub is_refused : {S : Type 0} → Answer S → Bool
+is_refused (refused r) = true
+is_refused a = false
+
 module _ {S : Type 0} where
   -- Checks, each with its refusal's number. The first that fails refuses, as an office of this depth does.
   abbrev pub unless : ℕ → List (Bool × ℕ) → Outcome S → Outcome S
   unless depth [] o = o
-  unless depth (c ∷ cs) o = cond c.0 (refuses (refused_at depth c.1)) (unless depth cs o)
+  unless depth (c ∷ cs) o = if c.0 then refuses (refused_at depth c.1) else unless depth cs o
 
   -- an objection comes before the numbered checks
   abbrev pub unless_objected : Option Refusal → Outcome S → Outcome S

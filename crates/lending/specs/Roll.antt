@@ -1,5 +1,5 @@
 -- The roll: the live leases by rising number.
-use Rattle.std.specs.Prelude.{ℕ, zero, suc, ◌<◌, Bool, cond, not, ◌&&◌, ◌||◌, List, [], ◌∷◌, map, length, is_some, Some, None, Option, ◌==◌, nat_eq}
+use Rattle.std.specs.Prelude.{ℕ, zero, suc, ◌<◌, Bool, if◌then◌else◌, not, ◌&&◌, ◌||◌, List, [], ◌∷◌, map, length, is_some, Some, None, Option, ◌==◌, nat_eq}
 use Rattle.std.specs.List.{filter, list_any}
 use Rattle.std.specs.Option.{unwrap_or}
 use Rattle.shares.specs.Kind.{Kind}
@@ -14,7 +14,7 @@ module _ {S : Type 0} where
   -- the live lease with a number
   abbrev pub find : List (Lease S) → ℕ → Option (Lease S)
   find [] n = None
-  find (l ∷ ls) n = cond (l.number == n) (Some l) (find ls n)
+  find (l ∷ ls) n = if l.number == n then Some l else find ls n
 
   abbrev pub live : List (Lease S) → ℕ → Bool
   live roll n = is_some (find roll n)
@@ -26,7 +26,7 @@ module _ {S : Type 0} where
   -- the lease's lender, if it has one and that is not the house, and then the rest
   abbrev pub lender_then : Option (Lease S) → (ℕ → List ℕ) → List ℕ
   lender_then None rest = []
-  lender_then (Some l) rest = cond (l.lender == 0) [] (l.lender ∷ rest l.lender)
+  lender_then (Some l) rest = if l.lender == 0 then [] else (l.lender ∷ rest l.lender)
 
   -- A lease's chain of lenders, nearest first and without the house, followed for so many steps.
   abbrev pub lenders : ℕ → List (Lease S) → ℕ → List ℕ
@@ -72,7 +72,7 @@ module _ {S : Type 0} where
 
   -- the roll with lease n changed by f
   abbrev pub change : ℕ → (Lease S → Lease S) → List (Lease S) → List (Lease S)
-  change n f roll = map (λ l. cond (l.number == n) (f l) l) roll
+  change n f roll = map (λ l. if l.number == n then f l else l) roll
 
   -- the roll without lease n
   abbrev pub close : ℕ → List (Lease S) → List (Lease S)
@@ -80,7 +80,7 @@ module _ {S : Type 0} where
 
   -- the roll in which a lends what b lent
   abbrev pub relend : ℕ → ℕ → List (Lease S) → List (Lease S)
-  relend a b roll = map (λ l. cond (l.lender == b) (with_lender a l) l) roll
+  relend a b roll = map (λ l. if l.lender == b then with_lender a l else l) roll
 
   -- The two shares joined; where they don't join, the first. That no call comes to the latter is part of what is proved.
   abbrev pub plus : Kind S → S → S → S

@@ -3,7 +3,7 @@ ghost use Rattle.lending.specs.Roll.{plus};
 
 use shares::Share;
 
-// Both shares joined. Where they don't join, which no call of an office comes to, it is the first.
+/// Both shares joined. Where they don't join, which no call of an office comes to, it is the first.
 pub fn join_or_keep<S: Share>(a: S, b: S) -> S
     ensures { result ≡ plus S.kind a b }
 {

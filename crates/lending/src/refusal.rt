@@ -3,7 +3,7 @@ ghost use Rattle.lending.specs.Answers.{reason_number, refused_here, raised_refu
 
 use thiserror::Error;
 
-// Why a call was refused, with the number by which everybody knows the reason.
+/// Why a call was refused, with the number by which everybody knows the reason.
 #[derive(Clone, Copy, PartialEq, Eq, Debug, Drop, Error)]
 pub enum Reason {
     #[error("the resource is not from 1 to 999")]
@@ -45,7 +45,7 @@ pub enum Reason {
 }
 
 impl Reason {
-    // Its number.
+    /// Its number.
     pub fn number(self) -> u8
         ensures { result ≡ reason_number self }
     {
@@ -53,7 +53,7 @@ impl Reason {
     }
 }
 
-// A refusal, and how many offices have passed it up since: level 0 is the office called.
+/// A refusal, and how many offices have passed it up since: level 0 is the office called.
 #[derive(Clone, Copy, PartialEq, Eq, Debug, Drop)]
 pub struct Refusal {
     pub reason: Reason,
@@ -70,7 +70,7 @@ impl From<Reason> for Refusal {
 }
 
 impl Refusal {
-    // The refusal as the next office passes it up. Nobody piles more than 255 layers, so no level is above 255.
+    /// The refusal as the next office passes it up. Nobody piles more than 255 layers, so no level is above 255.
     pub fn raised(self) -> Refusal
         ensures { result ≡ raised_refusal self }
     {

@@ -6,7 +6,7 @@ use thiserror::Error;
 // The level of a line call's refusal: such a call stands over an office and is none of its calls.
 const LEVEL: u8 = 0;
 
-// Why a line call was refused.
+/// Why a line call was refused.
 #[derive(Clone, Copy, PartialEq, Eq, Debug, Drop, Error)]
 pub enum LineReason {
     #[error("there is no such position")]
@@ -16,14 +16,14 @@ pub enum LineReason {
 }
 
 impl LineReason {
-    // Its number.
+    /// Its number.
     pub fn number(self) -> u8
         ensures { result ≡ (line_refusal self).number }
     {
         self as u8
     }
 
-    // Its level.
+    /// Its level.
     pub fn level(self) -> u8
         ensures { result ≡ (line_refusal self).level }
     {

@@ -6,16 +6,16 @@ ghost use Rattle.office.specs.ToCome.{leases_to_come};
 use crate::office::Office;
 use lending::Lease;
 
-// The live leases of an office from a position of the roll on.
+/// The live leases of an office from a position of the roll on.
 #[derive(Drop)]
 pub struct LiveLeases<'a, O> {
     office: &'a O,
     position: usize,
 }
 
-// The live leases of an office, in the order of the roll.
+/// The live leases of an office, in the order of the roll.
 pub fn leases<O: Office>(office: &O) -> LiveLeases<'_, O>
-    ensures { leases_to_come O.Office.meaning result ≡ (O.Office.meaning office.now).core.roll }
+    ensures { leases_to_come O.meaning result ≡ (O.meaning office.now).core.roll }
 {
     LiveLeases {
         office,
@@ -26,7 +26,7 @@ pub fn leases<O: Office>(office: &O) -> LiveLeases<'_, O>
 // The lease at a position of the roll, which is the first of those from there on, if there is one. By itself so that a wrong
 // `next` is refused where it stands, and not in the proof.
 fn first_from<O: Office>(office: &O, position: usize) -> Option<Lease<O::Kind>>
-    ensures comes { let roll = (O.Office.meaning office.now).core.roll in MatchOption result (drop position roll ≡ []) (λ lease. drop position roll ≡ lease ∷ drop (position + 1) roll) }
+    ensures comes { let roll = (O.meaning office.now).core.roll in MatchOption result (drop position roll ≡ []) (λ lease. drop position roll ≡ lease ∷ drop (position + 1) roll) }
     ensures within { IsSome result → position < most_rows }
 {
     office.lease_at(position).ok()
@@ -35,9 +35,9 @@ fn first_from<O: Office>(office: &O, position: usize) -> Option<Lease<O::Kind>>
 impl<'a, O: Office> Iterator for LiveLeases<'a, O> {
     type Item = Lease<O::Kind>;
 
-    ghost next_gives = { YieldsFirst (leases_to_come O.Office.meaning) };
+    ghost next_gives = { YieldsFirst (leases_to_come O.meaning) };
 
-    ghost remaining = { item_count (leases_to_come O.Office.meaning) };
+    ghost remaining = { item_count (leases_to_come O.meaning) };
 
     fn next(&mut self) -> Option<Lease<O::Kind>> {
         let lease = first_from(self.office, self.position)?;

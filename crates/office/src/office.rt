@@ -11,96 +11,72 @@ ghost use Rattle.office.specs.Lawful.{Lawful, unused};
 use lending::{Lease, Refusal};
 use shares::Share;
 
-// An office. Each call does to what the office stands for what the definitions say (`does`); a refusal leaves the whole
-// office as it was (`same`); the rows that it never uses stay as they are (`unused`), what its layers object to stays too
-// (`layers`), and its rows stay the very ones that were lent to it (`lent`). These stand on each call, and in no type, since they
-// speak of an office before and after it. What an office objects to may change with each granted call.
+/// An office. Each call does to what the office stands for what the definitions say (`does`); a refusal leaves the whole
+/// office as it was (`same`); the rows that it never uses stay as they are (`unused`), what its layers object to stays too
+/// (`layers`), and its rows stay the very ones that were lent to it (`lent`). These stand on each call, and in no type, since they
+/// speak of an office before and after it. What an office objects to may change with each granted call.
 pub trait Office {
-    // The kind of share that it leases.
+    /// The kind of share that it leases.
     type Kind: Share;
 
-    // What the office stands for.
+    /// What the office stands for.
     ghost meaning: { Self → State Self.Kind };
 
-    // What the rows hold that were lent to its ledger.
+    /// What the rows hold that were lent to its ledger.
     ghost rows: { Self → List (Lease Self.Kind) };
 
-    // Which loan of rows that is, and nothing about leases: each mutable reference has a name of its own, and whoever lent it knows
-    // the name.
-    ghost lent: { Self → ℕ };
+    /// Which loan of rows that is, and nothing about leases: each mutable reference has a name of its own, and whoever lent it knows
+    /// the name.
+    ghost loan: { Self → ℕ };
 
-    // Some layers of it, the outermost first, by what each objects to by itself; it may name none. No call changes what
-    // these object to. The office may object to more, and to other things after each granted call.
+    /// Some layers of it, the outermost first, by what each objects to by itself; it may name none. No call changes what
+    /// these object to. The office may object to more, and to other things after each granted call.
     ghost layers: { Self → Layers Self.Kind };
 
-    // What holds of every state of an office.
+    /// What holds of every state of an office.
     ghost lawful: { (o : Self) → Lawful (meaning o) (rows o) };
 
-    // How many leases are live.
+    /// How many leases are live.
     fn count(&self) -> usize
-        ensures { Does Self.Kind.Share.kind (meaning self.now) ask_count (number result) (meaning self.now) };
+        ensures { Does Self.Kind.kind (meaning self.now) ask_count (number result) (meaning self.now) };
 
-    // How many numbers were issued.
+    /// How many numbers were issued.
     fn issued(&self) -> u16
-        ensures { Does Self.Kind.Share.kind (meaning self.now) ask_issued (number result) (meaning self.now) };
+        ensures { Does Self.Kind.kind (meaning self.now) ask_issued (number result) (meaning self.now) };
 
-    // Today.
+    /// Today.
     fn today(&self) -> u16
-        ensures { Does Self.Kind.Share.kind (meaning self.now) ask_today (number result) (meaning self.now) };
+        ensures { Does Self.Kind.kind (meaning self.now) ask_today (number result) (meaning self.now) };
 
-    // The live lease at a position of the roll, from 0.
+    /// The live lease at a position of the roll, from 0.
     fn lease_at(&self, position: usize) -> Result<Lease<Self::Kind>, Refusal>
-        ensures { Does Self.Kind.Share.kind (meaning self.now) (ask_lease_at position) (lease_or_refused result) (meaning self.now) };
+        ensures { Does Self.Kind.kind (meaning self.now) (ask_lease_at position) (lease_or_refused result) (meaning self.now) };
 
-    // The live lease with a number.
+    /// The live lease with a number.
     fn lease(&self, lease: u16) -> Result<Lease<Self::Kind>, Refusal>
-        ensures { Does Self.Kind.Share.kind (meaning self.now) (ask_lease lease) (lease_or_refused result) (meaning self.now) };
+        ensures { Does Self.Kind.kind (meaning self.now) (ask_lease lease) (lease_or_refused result) (meaning self.now) };
 
-    // Opens a resource: the holder gets its first lease, with the whole. Answers its number.
+    /// Opens a resource: the holder gets its first lease, with the whole. Answers its number.
     fn open(&mut self, resource: u16, holder: u16) -> Result<u16, Refusal>
-        ensures does { Does Self.Kind.Share.kind (meaning self.old) (open_resource resource holder) (number_or_refused result) (meaning self.new) }
-        ensures same { is_ok result ≡ false → self.new ≡ self.old }
-        ensures unused { unused (rows self.new) ≡ unused (rows self.old) }
-        ensures layers { layers self.new ≡ layers self.old }
-        ensures lent { lent self.new ≡ lent self.old };
+        ensures performs { Performs Self.Kind.kind meaning rows loan layers (open_resource resource holder) (number_or_refused result) self.old self.new };
 
-    // Lends half of a lease's share to a holder, until a day. Answers the new lease's number.
+    /// Lends half of a lease's share to a holder, until a day. Answers the new lease's number.
     fn delegate(&mut self, lender: u16, holder: u16, due: u16) -> Result<u16, Refusal>
-        ensures does { Does Self.Kind.Share.kind (meaning self.old) (delegate lender holder due) (number_or_refused result) (meaning self.new) }
-        ensures same { is_ok result ≡ false → self.new ≡ self.old }
-        ensures unused { unused (rows self.new) ≡ unused (rows self.old) }
-        ensures layers { layers self.new ≡ layers self.old }
-        ensures lent { lent self.new ≡ lent self.old };
+        ensures performs { Performs Self.Kind.kind meaning rows loan layers (delegate lender holder due) (number_or_refused result) self.old self.new };
 
-    // Closes a lease, and joins its share to its lender's.
+    /// Closes a lease, and joins its share to its lender's.
     fn yield_lease(&mut self, lease: u16) -> Result<(), Refusal>
-        ensures does { Does Self.Kind.Share.kind (meaning self.old) (yield lease) (done_or_refused result) (meaning self.new) }
-        ensures same { is_ok result ≡ false → self.new ≡ self.old }
-        ensures unused { unused (rows self.new) ≡ unused (rows self.old) }
-        ensures layers { layers self.new ≡ layers self.old }
-        ensures lent { lent self.new ≡ lent self.old };
+        ensures performs { Performs Self.Kind.kind meaning rows loan layers (yield lease) (done_or_refused result) self.old self.new };
 
-    // Closes lease b; lease a gets both shares, and lends what b lent.
+    /// Closes lease b; lease a gets both shares, and lends what b lent.
     fn merge(&mut self, a: u16, b: u16) -> Result<(), Refusal>
-        ensures does { Does Self.Kind.Share.kind (meaning self.old) (merge a b) (done_or_refused result) (meaning self.new) }
-        ensures same { is_ok result ≡ false → self.new ≡ self.old }
-        ensures unused { unused (rows self.new) ≡ unused (rows self.old) }
-        ensures layers { layers self.new ≡ layers self.old }
-        ensures lent { lent self.new ≡ lent self.old };
+        ensures performs { Performs Self.Kind.kind meaning rows loan layers (merge a b) (done_or_refused result) self.old self.new };
 
-    // Changes the holder of a lease.
+    /// Changes the holder of a lease.
     fn assign(&mut self, lease: u16, holder: u16) -> Result<(), Refusal>
-        ensures does { Does Self.Kind.Share.kind (meaning self.old) (assign lease holder) (done_or_refused result) (meaning self.new) }
-        ensures same { is_ok result ≡ false → self.new ≡ self.old }
-        ensures unused { unused (rows self.new) ≡ unused (rows self.old) }
-        ensures layers { layers self.new ≡ layers self.old }
-        ensures lent { lent self.new ≡ lent self.old };
+        ensures performs { Performs Self.Kind.kind meaning rows loan layers (assign lease holder) (done_or_refused result) self.old self.new };
 
-    // Changes today.
+    /// Changes today.
     fn set_day(&mut self, day: u16) -> Result<(), Refusal>
-        ensures does { Does Self.Kind.Share.kind (meaning self.old) (new_day day) (done_or_refused result) (meaning self.new) }
-        ensures same { is_ok result ≡ false → self.new ≡ self.old }
-        ensures unused { unused (rows self.new) ≡ unused (rows self.old) }
-        ensures layers { layers self.new ≡ layers self.old }
-        ensures lent { lent self.new ≡ lent self.old };
+        ensures performs { Performs Self.Kind.kind meaning rows loan layers (new_day day) (done_or_refused result) self.old self.new };
 }

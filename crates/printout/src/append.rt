@@ -55,7 +55,7 @@ pub(crate) fn add_refusals(out: &mut Vec<u8>, faults: &[Fault]) -> Result<(), Al
 pub(crate) fn add_leases<O: Office>(out: &mut Vec<u8>, office: &O) -> Result<(), AllocError>
 where
     O::Kind: Printed,
-    ensures { Adds out.old.items (vec_capacity out.old) (lease_lines (lease_entries O.Kind.Share.kind O.Kind.Printed.text (O.Office.meaning office.now).core.roll)) result out.new.items (vec_capacity out.new) }
+    ensures { Adds out.old.items (vec_capacity out.old) (lease_lines (lease_entries O.Kind.kind O.Kind.text (O.meaning office.now).core.roll)) result out.new.items (vec_capacity out.new) }
 {
     for position in 0..count(office) {
         add_lease(out, office, position)?;
@@ -68,8 +68,8 @@ where
 fn add_lease<O: Office>(out: &mut Vec<u8>, office: &O, position: usize) -> Result<(), AllocError>
 where
     O::Kind: Printed,
-    requires { position < length (O.Office.meaning office.now).core.roll }
-    ensures { Adds out.old.items (vec_capacity out.old) (unwrap_or (line_at O.Kind.Share.kind O.Kind.Printed.text (O.Office.meaning office.now).core.roll position) []) result out.new.items (vec_capacity out.new) }
+    requires { position < length (O.meaning office.now).core.roll }
+    ensures { Adds out.old.items (vec_capacity out.old) (unwrap_or (line_at O.Kind.kind O.Kind.text (O.meaning office.now).core.roll position) []) result out.new.items (vec_capacity out.new) }
 {
     let mut space = [0; 219];
     let length = lease_line(office, position, &mut space).unwrap();
@@ -82,8 +82,8 @@ pub(crate) fn add_totals<O: Office>(
     office: &O,
     tallies: Tallies,
 ) -> Result<(), AllocError>
-    ensures adds { Adds out.old.items (vec_capacity out.old) (total_line (totals_of tallies (O.Office.meaning office.now))) result out.new.items (vec_capacity out.new) }
-    ensures readable { ReadableTotals (totals_of tallies (O.Office.meaning office.now)) }
+    ensures adds { Adds out.old.items (vec_capacity out.old) (total_line (totals_of tallies (O.meaning office.now))) result out.new.items (vec_capacity out.new) }
+    ensures readable { ReadableTotals (totals_of tallies (O.meaning office.now)) }
 {
     add_total_line(out, totals_of(office, tallies))
 }
@@ -99,7 +99,7 @@ fn add_total_line(out: &mut Vec<u8>, totals: Totals) -> Result<(), AllocError>
 
 // What the office says at the end, and what was counted.
 fn totals_of<O: Office>(office: &O, tallies: Tallies) -> Totals
-    ensures { result ≡ totals_of tallies (O.Office.meaning office.now) }
+    ensures { result ≡ totals_of tallies (O.meaning office.now) }
 {
     let Tallies {
         yielded,

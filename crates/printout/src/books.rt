@@ -18,9 +18,9 @@ use replay::{Fault, replay};
 use shares::Printed;
 use std::alloc::AllocError;
 
-// Replays a book over an office, and adds its printout to some bytes, and the faults of its refused events to a list. The list
-// gets its memory before the first event: where there is none, the office stays as it was. Later memory runs out for the bytes
-// alone, and then the replay is done.
+/// Replays a book over an office, and adds its printout to some bytes, and the faults of its refused events to a list. The list
+/// gets its memory before the first event: where there is none, the office stays as it was. Later memory runs out for the bytes
+/// alone, and then the replay is done.
 #[tactic(auto, using(crate::proofs::Backs::one_shown))]
 pub fn print_book<O: Piled>(
     office: &mut O,
@@ -30,23 +30,21 @@ pub fn print_book<O: Piled>(
 ) -> Result<(), AllocError>
 where
     O::Kind: Printed,
-    ensures prints { OnOk result (out.new.items ≡ out.old.items ++ printed_bytes O.Kind.Share.kind (O.Office.layers office.old) O.Kind.Printed.text book.now (O.Office.meaning office.old)) }
-    ensures readable { NoLineBreak O.Kind.Printed.text → OnOk result (IsReadable (contents O.Kind.Share.kind (O.Office.layers office.old) O.Kind.Printed.text book.now (O.Office.meaning office.old))) }
+    ensures prints { OnOk result (out.new.items ≡ out.old.items ++ printed_bytes O.Kind.kind (O.layers office.old) O.Kind.text book.now (O.meaning office.old)) }
+    ensures readable { NoLineBreak O.Kind.text → OnOk result (IsReadable (contents O.Kind.kind (O.layers office.old) O.Kind.text book.now (O.meaning office.old))) }
     ensures read_back { OneContents }
-    ensures leaves { OnOk result (O.Office.meaning office.new ≡ state_left O.Kind.Share.kind (O.Office.layers office.old) book.now (O.Office.meaning office.old)) }
-    ensures faults { OnOk result (map refused_event (drop (vec_len faults.old) faults.new.items) ≡ refused_events O.Kind.Share.kind (O.Office.layers office.old) book.now (O.Office.meaning office.old)) }
+    ensures leaves { OnOk result (O.meaning office.new ≡ state_left O.Kind.kind (O.layers office.old) book.now (O.meaning office.old)) }
+    ensures faults { OnOk result (map refused_event (drop (vec_len faults.old) faults.new.items) ≡ refused_events O.Kind.kind (O.layers office.old) book.now (O.meaning office.old)) }
     ensures kept { take (vec_len faults.old) faults.new.items ≡ faults.old.items }
     ensures begins { Begins out.old.items out.new.items }
     ensures unopened { IsErr (opening book.now) → (office.new ≡ office.old) × (faults.new ≡ faults.old) }
-    ensures idle { AllQuiet O.Kind.Share.kind (O.Office.meaning office.old) book.now (event_count book.now) → office.new ≡ office.old }
-    ensures no_memory { OnErr result ((office.new ≡ office.old) ⊎ (O.Office.meaning office.new ≡ state_left O.Kind.Share.kind (O.Office.layers office.old) book.now (O.Office.meaning office.old))) }
-    ensures replayed { vec_len faults.old + event_count book.now ≤ vec_capacity faults.old → O.Office.meaning office.new ≡ state_left O.Kind.Share.kind (O.Office.layers office.old) book.now (O.Office.meaning office.old) }
-    ensures room { vec_len faults.old + event_count book.now ≤ vec_capacity faults.old → vec_len out.old + length (printed_bytes O.Kind.Share.kind (O.Office.layers office.old) O.Kind.Printed.text book.now (O.Office.meaning office.old)) ≤ vec_capacity out.old → IsOk result }
-    ensures conserved { RunConserved O.Kind.Share.kind (O.Office.layers office.old) book.now (O.Office.meaning office.old) (event_count book.now) }
-    ensures unused { unused (O.Office.rows office.new) ≡ unused (O.Office.rows office.old) }
-    ensures layers { O.Office.layers office.new ≡ O.Office.layers office.old }
-    ensures lent { O.Office.lent office.new ≡ O.Office.lent office.old }
-    ensures always { LendingConserved O.Kind.Share.kind }
+    ensures idle { AllQuiet O.Kind.kind (O.meaning office.old) book.now (event_count book.now) → office.new ≡ office.old }
+    ensures no_memory { OnErr result ((office.new ≡ office.old) ⊎ (O.meaning office.new ≡ state_left O.Kind.kind (O.layers office.old) book.now (O.meaning office.old))) }
+    ensures replayed { vec_len faults.old + event_count book.now ≤ vec_capacity faults.old → O.meaning office.new ≡ state_left O.Kind.kind (O.layers office.old) book.now (O.meaning office.old) }
+    ensures room { vec_len faults.old + event_count book.now ≤ vec_capacity faults.old → vec_len out.old + length (printed_bytes O.Kind.kind (O.layers office.old) O.Kind.text book.now (O.meaning office.old)) ≤ vec_capacity out.old → IsOk result }
+    ensures conserved { RunConserved O.Kind.kind (O.layers office.old) book.now (O.meaning office.old) (event_count book.now) }
+    ensures keeps { Keeps O.rows O.loan O.layers office.old office.new }
+    ensures always { LendingConserved O.Kind.kind }
 {
     lending_is_conserved::<O::Kind>();
     replay_and_print(office, book, faults, out)
@@ -61,21 +59,19 @@ fn replay_and_print<O: Piled>(
 ) -> Result<(), AllocError>
 where
     O::Kind: Printed,
-    ensures prints { OnOk result (out.new.items ≡ out.old.items ++ printed_bytes O.Kind.Share.kind (O.Office.layers office.old) O.Kind.Printed.text book.now (O.Office.meaning office.old)) }
-    ensures readable { NoLineBreak O.Kind.Printed.text → OnOk result (IsReadable (contents O.Kind.Share.kind (O.Office.layers office.old) O.Kind.Printed.text book.now (O.Office.meaning office.old))) }
-    ensures leaves { OnOk result (O.Office.meaning office.new ≡ state_left O.Kind.Share.kind (O.Office.layers office.old) book.now (O.Office.meaning office.old)) }
-    ensures faults { OnOk result (map refused_event (drop (vec_len faults.old) faults.new.items) ≡ refused_events O.Kind.Share.kind (O.Office.layers office.old) book.now (O.Office.meaning office.old)) }
+    ensures prints { OnOk result (out.new.items ≡ out.old.items ++ printed_bytes O.Kind.kind (O.layers office.old) O.Kind.text book.now (O.meaning office.old)) }
+    ensures readable { NoLineBreak O.Kind.text → OnOk result (IsReadable (contents O.Kind.kind (O.layers office.old) O.Kind.text book.now (O.meaning office.old))) }
+    ensures leaves { OnOk result (O.meaning office.new ≡ state_left O.Kind.kind (O.layers office.old) book.now (O.meaning office.old)) }
+    ensures faults { OnOk result (map refused_event (drop (vec_len faults.old) faults.new.items) ≡ refused_events O.Kind.kind (O.layers office.old) book.now (O.meaning office.old)) }
     ensures kept { take (vec_len faults.old) faults.new.items ≡ faults.old.items }
     ensures begins { Begins out.old.items out.new.items }
     ensures unopened { IsErr (opening book.now) → (office.new ≡ office.old) × (faults.new ≡ faults.old) }
-    ensures idle { AllQuiet O.Kind.Share.kind (O.Office.meaning office.old) book.now (event_count book.now) → office.new ≡ office.old }
-    ensures no_memory { OnErr result ((office.new ≡ office.old) ⊎ (O.Office.meaning office.new ≡ state_left O.Kind.Share.kind (O.Office.layers office.old) book.now (O.Office.meaning office.old))) }
-    ensures replayed { vec_len faults.old + event_count book.now ≤ vec_capacity faults.old → O.Office.meaning office.new ≡ state_left O.Kind.Share.kind (O.Office.layers office.old) book.now (O.Office.meaning office.old) }
-    ensures room { vec_len faults.old + event_count book.now ≤ vec_capacity faults.old → vec_len out.old + length (printed_bytes O.Kind.Share.kind (O.Office.layers office.old) O.Kind.Printed.text book.now (O.Office.meaning office.old)) ≤ vec_capacity out.old → IsOk result }
-    ensures conserved { RunConserved O.Kind.Share.kind (O.Office.layers office.old) book.now (O.Office.meaning office.old) (event_count book.now) }
-    ensures unused { unused (O.Office.rows office.new) ≡ unused (O.Office.rows office.old) }
-    ensures layers { O.Office.layers office.new ≡ O.Office.layers office.old }
-    ensures lent { O.Office.lent office.new ≡ O.Office.lent office.old }
+    ensures idle { AllQuiet O.Kind.kind (O.meaning office.old) book.now (event_count book.now) → office.new ≡ office.old }
+    ensures no_memory { OnErr result ((office.new ≡ office.old) ⊎ (O.meaning office.new ≡ state_left O.Kind.kind (O.layers office.old) book.now (O.meaning office.old))) }
+    ensures replayed { vec_len faults.old + event_count book.now ≤ vec_capacity faults.old → O.meaning office.new ≡ state_left O.Kind.kind (O.layers office.old) book.now (O.meaning office.old) }
+    ensures room { vec_len faults.old + event_count book.now ≤ vec_capacity faults.old → vec_len out.old + length (printed_bytes O.Kind.kind (O.layers office.old) O.Kind.text book.now (O.meaning office.old)) ≤ vec_capacity out.old → IsOk result }
+    ensures conserved { RunConserved O.Kind.kind (O.layers office.old) book.now (O.meaning office.old) (event_count book.now) }
+    ensures keeps { Keeps O.rows O.loan O.layers office.old office.new }
 {
     let earlier = faults.len();
     match replay(office, book, faults)? {
@@ -93,8 +89,8 @@ fn add_lines<O: Office>(
 ) -> Result<(), AllocError>
 where
     O::Kind: Printed,
-    ensures adds { Adds out.old.items (vec_capacity out.old) (printout_bytes (contents_opened O.Kind.Share.kind O.Kind.Printed.text (map refused_event faults.now) tallies (O.Office.meaning office.now))) result out.new.items (vec_capacity out.new) }
-    ensures readable { NoLineBreak O.Kind.Printed.text → OnOk result (IsReadable (contents_opened O.Kind.Share.kind O.Kind.Printed.text (map refused_event faults.now) tallies (O.Office.meaning office.now))) }
+    ensures adds { Adds out.old.items (vec_capacity out.old) (printout_bytes (contents_opened O.Kind.kind O.Kind.text (map refused_event faults.now) tallies (O.meaning office.now))) result out.new.items (vec_capacity out.new) }
+    ensures readable { NoLineBreak O.Kind.text → OnOk result (IsReadable (contents_opened O.Kind.kind O.Kind.text (map refused_event faults.now) tallies (O.meaning office.now))) }
 {
     add_refusals(out, faults)?;
     add_leases(out, office)?;

@@ -1,5 +1,5 @@
-// The printout of a whole tenancy book: over any office whose objections follow from its layers, and over a new office of the
-// book's own kind of share.
+//! The printout of a whole tenancy book: over any office whose objections follow from its layers, and over a new office of the
+//! book's own kind of share.
 #![tactic(auto)]
 
 mod books;

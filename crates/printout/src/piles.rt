@@ -26,7 +26,7 @@ use term::Term;
 // Quota's number in the office that a book is replayed in.
 const QUOTA: u16 = 64;
 
-// The printout of a book, replayed in a new office of its own kind of share: Quota on Term on Chain on a ledger.
+/// The printout of a book, replayed in a new office of its own kind of share: Quota on Term on Chain on a ledger.
 #[tactic(auto, using(crate::proofs::Backs::one_printout, crate::proofs::Unbroken::trees_unbroken, crate::proofs::Unbroken::counting_unbroken))]
 pub fn tenancy(alloc: Global, book: &[u8]) -> Result<Vec<u8>, AllocError>
     ensures prints { IfOk result (λ printout. printout.items ≡ book_printout book.now) }
@@ -78,8 +78,8 @@ fn print_over<O: Piled + Drop>(
 ) -> Result<Vec<u8>, AllocError>
 where
     O::Kind: Printed,
-    ensures prints { IfOk result (λ printout. printout.items ≡ printout_bytes (contents O.Kind.Share.kind (layers header ++ O.Office.layers below) O.Kind.Printed.text book.now (pile (layers header) (O.Office.meaning below)))) }
-    ensures readable { NoLineBreak O.Kind.Printed.text → OnOk result (IsReadable (contents O.Kind.Share.kind (layers header ++ O.Office.layers below) O.Kind.Printed.text book.now (pile (layers header) (O.Office.meaning below)))) }
+    ensures prints { IfOk result (λ printout. printout.items ≡ printout_bytes (contents O.Kind.kind (layers header ++ O.layers below) O.Kind.text book.now (pile (layers header) (O.meaning below)))) }
+    ensures readable { NoLineBreak O.Kind.text → OnOk result (IsReadable (contents O.Kind.kind (layers header ++ O.layers below) O.Kind.text book.now (pile (layers header) (O.meaning below)))) }
 {
     let mut office = with_quota(with_term(with_chain(below, header), header));
     let mut faults = Vec::new(alloc);
@@ -91,24 +91,24 @@ where
 // Quota over an office. Each layer of a book's office is made in a function of its own, so that a wrong number is refused where
 // it stands.
 fn with_quota<O: Office>(below: O) -> Layer<O, Quota>
-    ensures stands { ⟦<Layer<O, Quota> as Office>⟧.meaning result ≡ layered (quota_objects 64) (O.Office.meaning below) }
-    ensures layers { ⟦<Layer<O, Quota> as Office>⟧.layers result ≡ quota_objects 64 ∷ O.Office.layers below }
+    ensures stands { ⟦<Layer<O, Quota> as Office>⟧.meaning result ≡ layered (quota_objects 64) (O.meaning below) }
+    ensures layers { ⟦<Layer<O, Quota> as Office>⟧.layers result ≡ quota_objects 64 ∷ O.layers below }
 {
     Quota::over(below, QUOTA)
 }
 
 // Term over an office, with the number in the book's header.
 fn with_term<O: Office>(below: O, header: Header) -> Layer<O, Term>
-    ensures stands { ⟦<Layer<O, Term> as Office>⟧.meaning result ≡ layered (term_objects header.term) (O.Office.meaning below) }
-    ensures layers { ⟦<Layer<O, Term> as Office>⟧.layers result ≡ term_objects header.term ∷ O.Office.layers below }
+    ensures stands { ⟦<Layer<O, Term> as Office>⟧.meaning result ≡ layered (term_objects header.term) (O.meaning below) }
+    ensures layers { ⟦<Layer<O, Term> as Office>⟧.layers result ≡ term_objects header.term ∷ O.layers below }
 {
     Term::over(below, header.term)
 }
 
 // Chain over an office, with the number in the book's header.
 fn with_chain<O: Office>(below: O, header: Header) -> Layer<O, Chain>
-    ensures stands { ⟦<Layer<O, Chain> as Office>⟧.meaning result ≡ layered (chain_objects header.chain) (O.Office.meaning below) }
-    ensures layers { ⟦<Layer<O, Chain> as Office>⟧.layers result ≡ chain_objects header.chain ∷ O.Office.layers below }
+    ensures stands { ⟦<Layer<O, Chain> as Office>⟧.meaning result ≡ layered (chain_objects header.chain) (O.meaning below) }
+    ensures layers { ⟦<Layer<O, Chain> as Office>⟧.layers result ≡ chain_objects header.chain ∷ O.layers below }
 {
     Chain::over(below, u16::from(header.chain))
 }

@@ -1,4 +1,4 @@
-// The rule Quota: a holder has so many leases at most.
+//! The rule Quota: a holder has so many leases at most.
 #![tactic(auto)]
 
 mod quota;

@@ -8,21 +8,21 @@ use layer::{Layer, Request, Rule};
 use lending::Reason;
 use office::{Office, leases};
 
-// A layer with this rule objects where a holder that has `limit` leases would get one more.
+/// A layer with this rule objects where a holder that has `limit` leases would get one more.
 #[derive(Clone, Copy, PartialEq, Eq, Debug, Drop)]
 pub struct Quota {
     limit: u16,
 }
 
 impl Quota {
-    // The layer with this rule over an office. It says by the definition of this rule what the layer stands for, which
-    // `Layer::new` can say of no rule in particular.
+    /// The layer with this rule over an office. It says by the definition of this rule what the layer stands for, which
+    /// `Layer::new` can say of no rule in particular.
     pub fn over<O: Office>(below: O, limit: u16) -> Layer<O, Quota>
-        ensures stands { ⟦<Layer<O, Quota> as Office>⟧.meaning result ≡ layered (quota_objects limit) (O.Office.meaning below) }
-        ensures set_up { SetUp (O.Office.meaning below) → SetUp (⟦<Layer<O, Quota> as Office>⟧.meaning result) }
-        ensures rows { ⟦<Layer<O, Quota> as Office>⟧.rows result ≡ O.Office.rows below }
-        ensures lent { ⟦<Layer<O, Quota> as Office>⟧.lent result ≡ O.Office.lent below }
-        ensures layers { ⟦<Layer<O, Quota> as Office>⟧.layers result ≡ quota_objects limit ∷ O.Office.layers below }
+        ensures stands { ⟦<Layer<O, Quota> as Office>⟧.meaning result ≡ layered (quota_objects limit) (O.meaning below) }
+        ensures set_up { SetUp (O.meaning below) → SetUp (⟦<Layer<O, Quota> as Office>⟧.meaning result) }
+        ensures rows { ⟦<Layer<O, Quota> as Office>⟧.rows result ≡ O.rows below }
+        ensures lent { ⟦<Layer<O, Quota> as Office>⟧.loan result ≡ O.loan below }
+        ensures layers { ⟦<Layer<O, Quota> as Office>⟧.layers result ≡ quota_objects limit ∷ O.layers below }
     {
         Layer::new(below, Quota { limit })
     }
@@ -41,7 +41,7 @@ impl<O: Office> Rule<O> for Quota {
 
 // How many live leases a holder has.
 fn held_by<O: Office>(office: &O, holder: u16) -> usize
-    ensures { result ≡ count_held (O.Office.meaning office.now).core.roll holder }
+    ensures { result ≡ count_held (O.meaning office.now).core.roll holder }
 {
     leases(office)
         .filter(|lease| lease.holder == holder)

@@ -4,14 +4,14 @@ ghost use Rattle.replay.specs.Faults.{fault_of_book, fault_of_office, cause_numb
 use book::BookReason;
 use lending::Refusal;
 
-// Why an event of a book, or the end of a session, was refused: by the book, or by the office that was asked.
+/// Why an event of a book, or the end of a session, was refused: by the book, or by the office that was asked.
 #[derive(Clone, Copy, PartialEq, Eq, Debug, Drop)]
 pub enum Cause {
     Book(BookReason),
     Office(Refusal),
 }
 
-// A refusal in a replay. The book's first event is 1; 0 means that the session stayed as it was.
+/// A refusal in a replay. The book's first event is 1; 0 means that the session stayed as it was.
 #[derive(Clone, Copy, PartialEq, Eq, Debug, Drop)]
 pub struct Fault {
     pub event: u16,
@@ -43,7 +43,7 @@ impl From<Refusal> for Fault {
 }
 
 impl Fault {
-    // The number of its refusal.
+    /// The number of its refusal.
     pub fn number(self) -> u8
         ensures { result ≡ cause_number self.cause }
     {
@@ -53,7 +53,7 @@ impl Fault {
         }
     }
 
-    // The level of its refusal, if an office refused.
+    /// The level of its refusal, if an office refused.
     pub fn level(self) -> Option<u8>
         ensures { result ≡ cause_level self.cause }
     {

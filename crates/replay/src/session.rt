@@ -14,7 +14,7 @@ use calls::{Tallies, make};
 use lending::lending_is_conserved;
 use office::Office;
 
-// A session that is reading: how many events are done, and what their calls closed. It doesn't keep the book.
+/// A session that is reading: how many events are done, and what their calls closed. It doesn't keep the book.
 #[derive(PartialEq, Eq, Debug, Drop)]
 pub struct Reading {
     done: u16,
@@ -28,7 +28,7 @@ impl Reading {
     ghost use Rattle.replay.specs.Events.{next};
     ghost use Rattle.replay.specs.Steps.{Steps, Finishes};
 
-    // A session before the first event.
+    /// A session before the first event.
     pub fn new() -> Reading
         ensures begins { result.done ≡ 0 }
         ensures counted { all_closed result.tallies ≡ 0 }
@@ -39,17 +39,15 @@ impl Reading {
         }
     }
 
-    // Does the next event of a book. Where no event is reached, the session and the office stay as they were; a refused event
-    // is done with, and leaves the office as it was.
+    /// Does the next event of a book. Where no event is reached, the session and the office stay as they were; a refused event
+    /// is done with, and leaves the office as it was.
     #[tactic(auto, using(crate::proofs::Stepping::refused_step))]
     pub fn step<O: Office>(&mut self, office: &mut O, book: &[u8]) -> Result<(), Fault>
-        ensures steps { Steps O.Kind.Share.kind (next book.now self.old.done) (O.Office.meaning office.old) self.old result self.new (O.Office.meaning office.new) }
+        ensures steps { Steps O.Kind.kind (next book.now self.old.done) (O.meaning office.old) self.old result self.new (O.meaning office.new) }
         ensures same { is_ok result ≡ false → office.new ≡ office.old }
-        ensures idle { quiet O.Kind.Share.kind (O.Office.meaning office.old) (next book.now self.old.done) ≡ true → office.new ≡ office.old }
-        ensures unused { unused (O.Office.rows office.new) ≡ unused (O.Office.rows office.old) }
-        ensures layers { O.Office.layers office.new ≡ O.Office.layers office.old }
-        ensures lent { O.Office.lent office.new ≡ O.Office.lent office.old }
-        ensures always { LendingConserved O.Kind.Share.kind }
+        ensures idle { quiet O.Kind.kind (O.meaning office.old) (next book.now self.old.done) ≡ true → office.new ≡ office.old }
+        ensures keeps { Keeps O.rows O.loan O.layers office.old office.new }
+        ensures always { LendingConserved O.Kind.kind }
     {
         lending_is_conserved::<O::Kind>();
         let event = next_event(book, self.done)?;
@@ -67,7 +65,7 @@ impl Reading {
         }
     }
 
-    // Ends the session, once every event of the book is done. Refused, it is handed back as it was.
+    /// Ends the session, once every event of the book is done. Refused, it is handed back as it was.
     pub fn finish(self, book: &[u8]) -> Result<Finished, (Reading, Fault)>
         ensures { Finishes (opening book.now) self result }
     {
@@ -87,13 +85,11 @@ impl Reading {
 // Makes the call that an event asks for, and answers the tallies with what it closed. A fault names no event.
 fn make_event<O: Office>(office: &mut O, event: Event, tallies: Tallies) -> Result<Tallies, Fault>
     requires { all_closed tallies < 2 ^ 63 }
-    ensures comes { Comes O.Kind.Share.kind (asks (code_and_operands event.entry.code event.entry.bytes.now)) 0 (O.Office.meaning office.old) tallies result (tallies_kept tallies result) (O.Office.meaning office.new) }
+    ensures comes { Comes O.Kind.kind (asks (code_and_operands event.entry.code event.entry.bytes.now)) 0 (O.meaning office.old) tallies result (tallies_kept tallies result) (O.meaning office.new) }
     ensures few { all_closed (tallies_kept tallies result) ≤ all_closed tallies + most_closed }
     ensures same { is_ok result ≡ false → office.new ≡ office.old }
-    ensures idle { quiet O.Kind.Share.kind (O.Office.meaning office.old) (asks (code_and_operands event.entry.code event.entry.bytes.now)) ≡ true → office.new ≡ office.old }
-    ensures unused { unused (O.Office.rows office.new) ≡ unused (O.Office.rows office.old) }
-    ensures layers { O.Office.layers office.new ≡ O.Office.layers office.old }
-    ensures lent { O.Office.lent office.new ≡ O.Office.lent office.old }
+    ensures idle { quiet O.Kind.kind (O.meaning office.old) (asks (code_and_operands event.entry.code event.entry.bytes.now)) ≡ true → office.new ≡ office.old }
+    ensures keeps { Keeps O.rows O.loan O.layers office.old office.new }
 {
     let (code, operands) = event.asked()?;
     let call = call_of(code, operands);
@@ -102,7 +98,7 @@ fn make_event<O: Office>(office: &mut O, event: Event, tallies: Tallies) -> Resu
     Ok(after)
 }
 
-// A session that was finished, with what it counted.
+/// A session that was finished, with what it counted.
 #[derive(PartialEq, Eq, Debug, Drop)]
 pub struct Finished {
     closed: Tallies,
@@ -111,15 +107,15 @@ pub struct Finished {
 }
 
 impl Finished {
-    // How many leases the calls of the replay closed.
+    /// How many leases the calls of the replay closed.
     pub fn tallies(&self) -> Tallies
         ensures { result ≡ self.now.closed }
     {
         self.closed
     }
 
-    // A finished session takes no step: begin a new replay. This is there to be refused by the check at every call, which asks that
-    // the session has not ended.
+    /// A finished session takes no step: begin a new replay. This is there to be refused by the check at every call, which asks that
+    /// the session has not ended.
     pub fn step<O: Office>(&self, _office: &mut O, _book: &[u8]) -> Result<(), Fault>
         requires reading { self.now.ended ≡ false }
     {

@@ -16,29 +16,27 @@ use lending::lending_is_conserved;
 use office::Office;
 use std::alloc::AllocError;
 
-// Replays a book over an office: each of its events is stepped once, in their order, and the session is finished. The faults of
-// the refused events are added to a list that the caller owns. Refused only as opening is; then office and list stay as they
-// were. So they do where memory runs out: what the list needs is taken before the first event.
+/// Replays a book over an office: each of its events is stepped once, in their order, and the session is finished. The faults of
+/// the refused events are added to a list that the caller owns. Refused only as opening is; then office and list stay as they
+/// were. So they do where memory runs out: what the list needs is taken before the first event.
 pub fn replay<O: Office>(
     office: &mut O,
     book: &[u8],
     faults: &mut Vec<Fault>,
 ) -> Result<Result<Finished, Fault>, AllocError>
     ensures opens { IfOk result (λ outcome. refused_event_in outcome ≡ opening_refused (opening book.now)) }
-    ensures replays { IfOk result (λ outcome. IfOk outcome (λ finished. Replayed O.Kind.Share.kind (SomeOffice O.Office.meaning O.Office.layers (O.Office.layers office.old)) book.now (O.Office.meaning office.old) (event_count book.now) (drop (vec_len faults.old) faults.new.items) finished.closed (O.Office.meaning office.new))) }
-    ensures runs { ((o : O) → Follow (O.Office.layers o) (O.Office.meaning o)) → IfOk result (λ outcome. IfOk outcome (λ finished. Replay O.Kind.Share.kind (O.Office.layers office.old) book.now (O.Office.meaning office.old) (event_count book.now) (drop (vec_len faults.old) faults.new.items) finished.closed (O.Office.meaning office.new))) }
-    ensures once { ((o : O) → Follow (O.Office.layers o) (O.Office.meaning o)) → OneReplay O.Kind.Share.kind (SomeOffice O.Office.meaning O.Office.layers (O.Office.layers office.old)) book.now (O.Office.meaning office.old) (event_count book.now) }
-    ensures conserved { RunConserved O.Kind.Share.kind (O.Office.layers office.old) book.now (O.Office.meaning office.old) (event_count book.now) }
+    ensures replays { IfOk result (λ outcome. IfOk outcome (λ finished. Replayed O.Kind.kind (SomeOffice O.meaning O.layers (O.layers office.old)) book.now (O.meaning office.old) (event_count book.now) (drop (vec_len faults.old) faults.new.items) finished.closed (O.meaning office.new))) }
+    ensures runs { ((o : O) → Follow (O.layers o) (O.meaning o)) → IfOk result (λ outcome. IfOk outcome (λ finished. Replay O.Kind.kind (O.layers office.old) book.now (O.meaning office.old) (event_count book.now) (drop (vec_len faults.old) faults.new.items) finished.closed (O.meaning office.new))) }
+    ensures once { ((o : O) → Follow (O.layers o) (O.meaning o)) → OneReplay O.Kind.kind (SomeOffice O.meaning O.layers (O.layers office.old)) book.now (O.meaning office.old) (event_count book.now) }
+    ensures conserved { RunConserved O.Kind.kind (O.layers office.old) book.now (O.meaning office.old) (event_count book.now) }
     ensures kept { take (vec_len faults.old) faults.new.items ≡ faults.old.items }
     ensures same { IfOk result (λ outcome. OnErr outcome ((office.new ≡ office.old) × (faults.new ≡ faults.old))) }
     ensures no_memory { OnErr result ((office.new ≡ office.old) × (faults.new.items ≡ faults.old.items) × (vec_capacity faults.new ≡ vec_capacity faults.old)) }
     ensures room { vec_len faults.old + event_count book.now ≤ vec_capacity faults.old → IsOk result }
     ensures needed { OnErr result (opening_refused (opening book.now) ≡ None) }
-    ensures idle { AllQuiet O.Kind.Share.kind (O.Office.meaning office.old) book.now (event_count book.now) → office.new ≡ office.old }
-    ensures unused { unused (O.Office.rows office.new) ≡ unused (O.Office.rows office.old) }
-    ensures layers { O.Office.layers office.new ≡ O.Office.layers office.old }
-    ensures lent { O.Office.lent office.new ≡ O.Office.lent office.old }
-    ensures always { LendingConserved O.Kind.Share.kind }
+    ensures idle { AllQuiet O.Kind.kind (O.meaning office.old) book.now (event_count book.now) → office.new ≡ office.old }
+    ensures keeps { Keeps O.rows O.loan O.layers office.old office.new }
+    ensures always { LendingConserved O.Kind.kind }
 {
     lending_is_conserved::<O::Kind>();
     read_book(office, book, faults)
@@ -52,16 +50,14 @@ fn read_book<O: Office>(
     faults: &mut Vec<Fault>,
 ) -> Result<Result<Finished, Fault>, AllocError>
     ensures opens { IfOk result (λ outcome. refused_event_in outcome ≡ opening_refused (opening book.now)) }
-    ensures replays { IfOk result (λ outcome. IfOk outcome (λ finished. Replayed O.Kind.Share.kind (SomeOffice O.Office.meaning O.Office.layers (O.Office.layers office.old)) book.now (O.Office.meaning office.old) (event_count book.now) (drop (vec_len faults.old) faults.new.items) finished.closed (O.Office.meaning office.new))) }
+    ensures replays { IfOk result (λ outcome. IfOk outcome (λ finished. Replayed O.Kind.kind (SomeOffice O.meaning O.layers (O.layers office.old)) book.now (O.meaning office.old) (event_count book.now) (drop (vec_len faults.old) faults.new.items) finished.closed (O.meaning office.new))) }
     ensures kept { take (vec_len faults.old) faults.new.items ≡ faults.old.items }
     ensures same { IfOk result (λ outcome. OnErr outcome ((office.new ≡ office.old) × (faults.new ≡ faults.old))) }
     ensures no_memory { OnErr result ((office.new ≡ office.old) × (faults.new.items ≡ faults.old.items) × (vec_capacity faults.new ≡ vec_capacity faults.old)) }
     ensures room { vec_len faults.old + event_count book.now ≤ vec_capacity faults.old → IsOk result }
     ensures needed { OnErr result (opening_refused (opening book.now) ≡ None) }
-    ensures idle { AllQuiet O.Kind.Share.kind (O.Office.meaning office.old) book.now (event_count book.now) → office.new ≡ office.old }
-    ensures unused { unused (O.Office.rows office.new) ≡ unused (O.Office.rows office.old) }
-    ensures layers { O.Office.layers office.new ≡ O.Office.layers office.old }
-    ensures lent { O.Office.lent office.new ≡ O.Office.lent office.old }
+    ensures idle { AllQuiet O.Kind.kind (O.meaning office.old) book.now (event_count book.now) → office.new ≡ office.old }
+    ensures keeps { Keeps O.rows O.loan O.layers office.old office.new }
 {
     let events = match count_events(book) {
         Ok(events) => events,
@@ -97,13 +93,11 @@ fn read_events<O: Office>(
     requires opens { Opens (opening book.now) events }
     requires counted { events ≡ event_count book.now }
     requires room { vec_len faults.old + events ≤ vec_capacity faults.old }
-    ensures replays { Replayed O.Kind.Share.kind (SomeOffice O.Office.meaning O.Office.layers (O.Office.layers office.old)) book.now (O.Office.meaning office.old) events (drop (vec_len faults.old) faults.new.items) result.tallies (O.Office.meaning office.new) }
+    ensures replays { Replayed O.Kind.kind (SomeOffice O.meaning O.layers (O.layers office.old)) book.now (O.meaning office.old) events (drop (vec_len faults.old) faults.new.items) result.tallies (O.meaning office.new) }
     ensures kept { take (vec_len faults.old) faults.new.items ≡ faults.old.items }
     ensures done { result.done ≡ events }
-    ensures idle { AllQuiet O.Kind.Share.kind (O.Office.meaning office.old) book.now events → office.new ≡ office.old }
-    ensures unused { unused (O.Office.rows office.new) ≡ unused (O.Office.rows office.old) }
-    ensures layers { O.Office.layers office.new ≡ O.Office.layers office.old }
-    ensures lent { O.Office.lent office.new ≡ O.Office.lent office.old }
+    ensures idle { AllQuiet O.Kind.kind (O.meaning office.old) book.now events → office.new ≡ office.old }
+    ensures keeps { Keeps O.rows O.loan O.layers office.old office.new }
 {
     lending_is_conserved::<O::Kind>();
     let mut session = Reading::new();

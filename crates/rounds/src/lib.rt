@@ -1,4 +1,4 @@
-// Loans of a whole resource to borrowers in turn, and their return.
+//! Loans of a whole resource to borrowers in turn, and their return.
 #![tactic(auto)]
 
 mod loan;

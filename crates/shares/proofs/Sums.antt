@@ -3,7 +3,7 @@ use Rattle.std.proofs.Common.{◌≡◌, ℕ, Bool, true, false, T, List, [], �
 use mathlib.Core.HLevel.{hedberg}
 use mathlib.Core.Logic.{∥∥₁_elim}
 use mathlib.Core.List.{Perm, Permᴰ}
-use Rattle.shares.specs.Kind.{Kind, Laws, then}
+use Rattle.shares.specs.Kind.{Kind, Laws, bind}
 use Rattle.shares.specs.Joins.{Grouping, leaves, grouped, together, JoinsEveryWay}
 use Rattle.shares.specs.Joins.Grouping.{one, both}
 
@@ -14,7 +14,7 @@ decides false f g = no g
 module _ {S : Type 0} (K : Kind S) where
   -- the join of two shares that may be undefined
   unfoldable pub plus? : Option S → Option S → Option S
-  plus? x y = then x (λ a. then y (λ b. K.join a b))
+  plus? x y = bind x (λ a. bind y (λ b. K.join a b))
 
   abbrev pub nothing : Option S
   nothing = Some K.empty
@@ -33,7 +33,7 @@ module _ {S : Type 0} (K : Kind S) where
   unfolding plus?
   together_plus s ss = refl
 
-  then_none : (x : Option S) → then {A = S} {B = S} x (λ a. None) ≡ None
+  then_none : (x : Option S) → bind {A = S} {B = S} x (λ a. None) ≡ None
   then_none None = refl
   then_none (Some a) = refl
 

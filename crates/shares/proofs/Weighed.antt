@@ -1,6 +1,6 @@
 -- A kind whose join adds weights: a share is told by its weight, and a part of a share is a share.
 use Rattle.std.proofs.Common.{◌≡◌, ℕ, ◌+◌, Some, None, Option, sym, refl, ap, ◌∙◌, arith}
-use Rattle.shares.specs.Kind.{then}
+use Rattle.shares.specs.Kind.{bind}
 
 -- two answers with the same values are equal
 pub same_answers : {S : Type 0} (o p : Option S) → ((d : S) → o ≡ Some d → p ≡ Some d) → ((d : S) → p ≡ Some d → o ≡ Some d) → o ≡ p
@@ -19,35 +19,35 @@ module _ {S : Type 0} (w : S → ℕ) (◌⊕◌ : S → S → Option S)
       (λ d e. let p = fwd a b d e in bwd b a d (omega (arith, p)))
       (λ d e. let p = fwd b a d e in bwd a b d (omega (arith, p)))
 
-  left_weight : (a b c d : S) → then (◌⊕◌ a b) (λ ab. ◌⊕◌ ab c) ≡ Some d → w d ≡ w a + w b + w c
+  left_weight : (a b c d : S) → bind (◌⊕◌ a b) (λ ab. ◌⊕◌ ab c) ≡ Some d → w d ≡ w a + w b + w c
   left_weight a b c d = go (◌⊕◌ a b) refl
     where
-      go : (o : Option S) → ◌⊕◌ a b ≡ o → then o (λ ab. ◌⊕◌ ab c) ≡ Some d → w d ≡ w a + w b + w c
+      go : (o : Option S) → ◌⊕◌ a b ≡ o → bind o (λ ab. ◌⊕◌ ab c) ≡ Some d → w d ≡ w a + w b + w c
       go None f e = let z : ◌≡◌ {A = ℕ} 0 1 = cc in omega arith
       go (Some x) f e = omega (arith, fwd a b x f, fwd x c d e)
 
-  left_made : (a b c d : S) → w d ≡ w a + w b + w c → then (◌⊕◌ a b) (λ ab. ◌⊕◌ ab c) ≡ Some d
+  left_made : (a b c d : S) → w d ≡ w a + w b + w c → bind (◌⊕◌ a b) (λ ab. ◌⊕◌ ab c) ≡ Some d
   left_made a b c d h =
       let e = part a b c d h in
       let p = e.1 in
-      ap (λ o. then o (λ ab. ◌⊕◌ ab c)) (bwd a b e.0 p) ∙ bwd e.0 c d (omega (arith, p, h))
+      ap (λ o. bind o (λ ab. ◌⊕◌ ab c)) (bwd a b e.0 p) ∙ bwd e.0 c d (omega (arith, p, h))
 
-  right_weight : (a b c d : S) → then (◌⊕◌ b c) (λ bc. ◌⊕◌ a bc) ≡ Some d → w d ≡ w a + w b + w c
+  right_weight : (a b c d : S) → bind (◌⊕◌ b c) (λ bc. ◌⊕◌ a bc) ≡ Some d → w d ≡ w a + w b + w c
   right_weight a b c d = go (◌⊕◌ b c) refl
     where
-      go : (o : Option S) → ◌⊕◌ b c ≡ o → then o (λ bc. ◌⊕◌ a bc) ≡ Some d → w d ≡ w a + w b + w c
+      go : (o : Option S) → ◌⊕◌ b c ≡ o → bind o (λ bc. ◌⊕◌ a bc) ≡ Some d → w d ≡ w a + w b + w c
       go None f e = let z : ◌≡◌ {A = ℕ} 0 1 = cc in omega arith
       go (Some x) f e = omega (arith, fwd b c x f, fwd a x d e)
 
-  right_made : (a b c d : S) → w d ≡ w a + w b + w c → then (◌⊕◌ b c) (λ bc. ◌⊕◌ a bc) ≡ Some d
+  right_made : (a b c d : S) → w d ≡ w a + w b + w c → bind (◌⊕◌ b c) (λ bc. ◌⊕◌ a bc) ≡ Some d
   right_made a b c d h =
       let e = part b c a d (omega (arith, h)) in
       let p = e.1 in
-      ap (λ o. then o (λ bc. ◌⊕◌ a bc)) (bwd b c e.0 p) ∙ bwd a e.0 d (omega (arith, p, h))
+      ap (λ o. bind o (λ bc. ◌⊕◌ a bc)) (bwd b c e.0 p) ∙ bwd a e.0 d (omega (arith, p, h))
 
-  pub associates : (a b c : S) → then (◌⊕◌ a b) (λ ab. ◌⊕◌ ab c) ≡ then (◌⊕◌ b c) (λ bc. ◌⊕◌ a bc)
+  pub associates : (a b c : S) → bind (◌⊕◌ a b) (λ ab. ◌⊕◌ ab c) ≡ bind (◌⊕◌ b c) (λ bc. ◌⊕◌ a bc)
   associates a b c =
-      same_answers (then (◌⊕◌ a b) (λ ab. ◌⊕◌ ab c)) (then (◌⊕◌ b c) (λ bc. ◌⊕◌ a bc))
+      same_answers (bind (◌⊕◌ a b) (λ ab. ◌⊕◌ ab c)) (bind (◌⊕◌ b c) (λ bc. ◌⊕◌ a bc))
       (λ d e. right_made a b c d (left_weight a b c d e)) (λ d e. left_made a b c d (right_weight a b c d e))
 
   pub cancels : (a b c d : S) → ◌⊕◌ a c ≡ Some d → ◌⊕◌ b c ≡ Some d → a ≡ b

@@ -2,9 +2,9 @@
 use Rattle.std.specs.Prelude.{◌≡◌, Bool, T, ◌↔◌, Some, None, Option, ◌≢◌}
 
 -- goes on with a value, if there is one
-abbrev pub then : {A B : Type 0} → Option A → (A → Option B) → Option B
-then None f = None
-then (Some a) f = f a
+abbrev pub bind : {A B : Type 0} → Option A → (A → Option B) → Option B
+bind None f = None
+bind (Some a) f = f a
 
 -- The operations of a kind whose shares are the values of S.
 pub record Kind (S : Type 0) : Type 0 where
@@ -20,7 +20,7 @@ pub record Kind (S : Type 0) : Type 0 where
 -- The laws of a kind. Where two joins are equal, each is defined exactly when the other is.
 pub record Laws {S : Type 0} (K : Kind S) : Type 0 where
   pub commutes : (a b : S) → K.join a b ≡ K.join b a
-  pub associates : (a b c : S) → then (K.join a b) (λ ab. K.join ab c) ≡ then (K.join b c) (λ bc. K.join a bc)
+  pub associates : (a b c : S) → bind (K.join a b) (λ ab. K.join ab c) ≡ bind (K.join b c) (λ bc. K.join a bc)
   pub empty_adds_nothing : (a : S) → K.join a K.empty ≡ Some a
   pub cancels : (a b c s : S) → K.join a c ≡ Some s → K.join b c ≡ Some s → a ≡ b
   pub empty_has_no_parts : (a b : S) → K.join a b ≡ Some K.empty → (a ≡ K.empty) × (b ≡ K.empty)

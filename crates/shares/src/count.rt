@@ -3,8 +3,8 @@ ghost use Rattle.shares.specs.Text.{in_front};
 
 use digits::Digits;
 
-// Writes a letter and a number in decimal at the front of a space, as kinds that count print their shares, and answers how
-// many bytes that are. What stands after them stays. (A space and a length, since an office has no heap.)
+/// Writes a letter and a number in decimal at the front of a space, as kinds that count print their shares, and answers how
+/// many bytes that are. What stands after them stays. (A space and a length, since an office has no heap.)
 pub fn write_count(letter: u8, n: u16, space: &mut [u8; 190]) -> usize
     ensures length { result ≡ length (letter ∷ decimal n) }
     ensures bytes { space.new ≡ in_front (letter ∷ decimal n) space.old }

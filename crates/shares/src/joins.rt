@@ -4,8 +4,8 @@ ghost use Rattle.shares.specs.Joins.{Grouping, leaves, grouped, together, JoinsE
 
 use crate::share::Share;
 
-// What some shares come to in whichever order and grouping they are joined, or None where they can't be held at once. No
-// shares at all come to the empty share.
+/// What some shares come to in whichever order and grouping they are joined, or None where they can't be held at once. No
+/// shares at all come to the empty share.
 pub fn join_all<S: Share>(shares: &[S]) -> Option<S>
     ensures is { result ≡ together S.kind shares.now }
     ensures any_way { (g : Grouping S) → Perm (leaves g) shares.now → grouped S.kind g ≡ result }

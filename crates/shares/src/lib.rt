@@ -1,4 +1,4 @@
-// Shares: what can be lent, how a share is cut in two, and how shares come together again.
+//! Shares: what can be lent, how a share is cut in two, and how shares come together again.
 #![tactic(auto)]
 
 mod count;

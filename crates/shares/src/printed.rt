@@ -3,19 +3,19 @@ ghost use Rattle.shares.specs.Text.{in_front};
 
 use crate::share::Share;
 
-// A kind of share that also has a text.
+/// A kind of share that also has a text.
 pub trait Printed: Share {
-    // The bytes of a share's text.
+    /// The bytes of a share's text.
     ghost text: { Self → List ℕ };
 
-    // Writes the text at the front of a space, where there is always room for it, and answers its length. What stands
-    // after it stays. A space and a length, and no String, since an office has no heap.
+    /// Writes the text at the front of a space, where there is always room for it, and answers its length. What stands
+    /// after it stays. A space and a length, and no String, since an office has no heap.
     fn write(self, space: &mut [u8; 190]) -> usize
         ensures length { result ≡ length (text self) }
         ensures bytes { space.new ≡ in_front (text self) space.old };
 
     ghost short: { (a : Self) → length (text a) ≤ 190 };
 
-    // Two shares are equal exactly when their texts are.
+    /// Two shares are equal exactly when their texts are.
     ghost exact: { (a b : Self) → (text a ≡ text b) ↔ (a ≡ b) };
 }

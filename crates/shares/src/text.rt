@@ -3,7 +3,7 @@ ghost use Rattle.std.specs.Prelude.{◌≡◌, Some};
 use crate::plain_text::PlainText;
 use std::fmt;
 
-// A share that prints as its text.
+/// A share that prints as its text.
 #[derive(Clone, Copy)]
 pub struct Text<S>(pub S);
 

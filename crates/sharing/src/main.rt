@@ -1,4 +1,4 @@
-// Shares a resource out among borrowers and takes every share back, once for each line of standard input.
+//! Shares a resource out among borrowers and takes every share back, once for each line of standard input.
 #![tactic(auto)]
 
 mod order;

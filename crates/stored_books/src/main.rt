@@ -1,5 +1,5 @@
-// Prints the printouts of stored books. On standard input they stand one after another, each after its length: a 16-bit
-// number, the lower byte first.
+//! Prints the printouts of stored books. On standard input they stand one after another, each after its length: a 16-bit
+//! number, the lower byte first.
 #![tactic(auto)]
 
 use printout::tenancy;

@@ -1,4 +1,4 @@
-// Replays the tenancy book on standard input, and prints its printout.
+//! Replays the tenancy book on standard input, and prints its printout.
 #![tactic(auto)]
 
 use book::bytes_to_read;

@@ -1,4 +1,4 @@
-// The rule Term: a lease is delegated for so many days at most.
+//! The rule Term: a lease is delegated for so many days at most.
 #![tactic(auto)]
 
 mod term;

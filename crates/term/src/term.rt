@@ -7,21 +7,21 @@ use layer::{Layer, Request, Rule};
 use lending::Reason;
 use office::Office;
 
-// A layer with this rule objects where a lease is delegated for more than `days` days.
+/// A layer with this rule objects where a lease is delegated for more than `days` days.
 #[derive(Clone, Copy, PartialEq, Eq, Debug, Drop)]
 pub struct Term {
     days: u16,
 }
 
 impl Term {
-    // The layer with this rule over an office. It says by the definition of this rule what the layer stands for, which
-    // `Layer::new` can say of no rule in particular.
+    /// The layer with this rule over an office. It says by the definition of this rule what the layer stands for, which
+    /// `Layer::new` can say of no rule in particular.
     pub fn over<O: Office>(below: O, days: u16) -> Layer<O, Term>
-        ensures stands { ⟦<Layer<O, Term> as Office>⟧.meaning result ≡ layered (term_objects days) (O.Office.meaning below) }
-        ensures set_up { SetUp (O.Office.meaning below) → SetUp (⟦<Layer<O, Term> as Office>⟧.meaning result) }
-        ensures rows { ⟦<Layer<O, Term> as Office>⟧.rows result ≡ O.Office.rows below }
-        ensures lent { ⟦<Layer<O, Term> as Office>⟧.lent result ≡ O.Office.lent below }
-        ensures layers { ⟦<Layer<O, Term> as Office>⟧.layers result ≡ term_objects days ∷ O.Office.layers below }
+        ensures stands { ⟦<Layer<O, Term> as Office>⟧.meaning result ≡ layered (term_objects days) (O.meaning below) }
+        ensures set_up { SetUp (O.meaning below) → SetUp (⟦<Layer<O, Term> as Office>⟧.meaning result) }
+        ensures rows { ⟦<Layer<O, Term> as Office>⟧.rows result ≡ O.rows below }
+        ensures lent { ⟦<Layer<O, Term> as Office>⟧.loan result ≡ O.loan below }
+        ensures layers { ⟦<Layer<O, Term> as Office>⟧.layers result ≡ term_objects days ∷ O.layers below }
     {
         Layer::new(below, Term { days })
     }

@@ -1,11 +1,17 @@
 -- A block as the code has it: its size in cells, and its cells as the bits of a number.
-use Rattle.std.specs.Prelude.{◌≡◌, ℕ, ◌+◌, ◌-◌, ◌^◌, ◌<◌, cond, List, ◌++◌, length, take, drop, Some, None, Option, nat_le}
+use Rattle.std.specs.Prelude.{◌≡◌, ℕ, ◌+◌, ◌-◌, ◌^◌, ◌<◌, if◌then◌else◌, List, ◌++◌, length, take, drop, Some, None, Option, nat_le}
 use Rattle.trees.specs.Tree.{Tree, kept, has_filled_cell, text}
 use Rattle.trees.specs.Cells.{span, tree_of, cells_of}
 
 -- the height of a block of so many cells
 unfoldable pub level : ℕ → ℕ
-level size = cond (nat_le size 1) 0 (cond (nat_le size 2) 1 (cond (nat_le size 4) 2 (cond (nat_le size 8) 3 (cond (nat_le size 16) 4 (cond (nat_le size 32) 5 6)))))
+level size =
+    if nat_le size 1 then 0 else
+    (if nat_le size 2 then 1 else
+    (if nat_le size 4 then 2 else
+    (if nat_le size 8 then 3 else
+    (if nat_le size 16 then 4 else
+    (if nat_le size 32 then 5 else 6)))))
 
 -- A block has 1, 2, 4, 8, 16, 32 or 64 cells.
 pub record Block (size cells : ℕ) : Type 0 where
@@ -20,7 +26,7 @@ pub record Mixed (size cells : ℕ) : Type 0 where
 
 -- the cells kept of a tree of height h where each filled leaf is cut in two; None where one of them is one cell
 abbrev pub kept_cells : ℕ → Tree → Option ℕ
-kept_cells h t = cond (has_filled_cell h t) None (Some (cells_of h (kept t)))
+kept_cells h t = if has_filled_cell h t then None else Some (cells_of h (kept t))
 
 -- the cells kept of a block
 unfoldable pub kept_of : ℕ → ℕ → Option ℕ

@@ -1,7 +1,7 @@
 -- Tree shares as sets of the cells 0 to 63, and the tree of each.
-use Rattle.std.specs.Prelude.{ℕ, zero, suc, ◌+◌, ◌-◌, ◌*◌, ◌/◌, ◌%◌, ◌^◌, Bool, true, false, cond, ◌||◌, List, Some, None, Option, ◌==◌, bit_and, bit_or}
+use Rattle.std.specs.Prelude.{ℕ, zero, suc, ◌+◌, ◌-◌, ◌*◌, ◌/◌, ◌%◌, ◌^◌, Bool, true, false, if◌then◌else◌, ◌||◌, List, Some, None, Option, ◌==◌, bit_and, bit_or}
 use Rattle.std.proofs.Common.{mod-lt, pow_pos}
-use Rattle.shares.specs.Kind.{Kind, then}
+use Rattle.shares.specs.Kind.{Kind, bind}
 use Rattle.trees.specs.declared.trees.Trees.{Trees}
 use Rattle.trees.specs.Tree.{Tree, leaf, node, fold, kept, lent, has_filled_cell, text}
 
@@ -44,15 +44,15 @@ share t = trees_of_cells (cells_of 6 t)
 
 -- the union, where no cell is in both
 abbrev pub union : Trees → Trees → Option Trees
-union a b = cond (bit_and a.cells b.cells == 0) (Some (trees_of_cells (bit_or a.cells b.cells))) None
+union a b = if bit_and a.cells b.cells == 0 then Some (trees_of_cells (bit_or a.cells b.cells)) else None
 
 -- the cells kept and the cells lent where each filled leaf is cut in two; None if there are no cells or a filled leaf is one
 unfoldable pub cut : ℕ → Option (ℕ × ℕ)
-cut n = let t = tree_of 6 n in cond (n == 0 || has_filled_cell 6 t) None (Some (cells_of 6 (kept t), cells_of 6 (lent t)))
+cut n = let t = tree_of 6 n in if n == 0 || has_filled_cell 6 t then None else Some (cells_of 6 (kept t), cells_of 6 (lent t))
 
 -- the half kept and the half lent
 abbrev pub halves : Trees → Option (Trees × Trees)
-halves s = then (cut s.cells) (λ p. Some (trees_of_cells p.0, trees_of_cells p.1))
+halves s = bind (cut s.cells) (λ p. Some (trees_of_cells p.0, trees_of_cells p.1))
 
 abbrev pub trees_kind : Kind Trees
 trees_kind = record { empty = trees_of_cells 0; whole = trees_of_cells (2 ^ 64 - 1); join = union; halve = halves; same = λ a b. (a.cells == b.cells) }

@@ -5,7 +5,7 @@ use Rattle.std.proofs.Common.{sym, ap, ap₂, ◌∙◌, inl, inr, ⊎_elim, ari
 use Rattle.std.specs.Int.Bits.{and_lt}
 use Rattle.std.proofs.lemmas.Nat.{or_disjoint}
 use Rattle.std.proofs.Math.Arith.{digits_div, digits_mod}
-use Rattle.shares.specs.Kind.{then}
+use Rattle.shares.specs.Kind.{bind}
 use Rattle.trees.specs.declared.trees.Trees.{Trees}
 use Rattle.trees.specs.Tree.{Tree, leaf, node, ●, ○, Alike, Canonical, fold, ◌⊓◌, ◌⋈◌, kept, lent, height, has_filled_cell, text}
 use Rattle.trees.specs.Cells.{span, tree_of, cells_of, tree, text_of_share, share, union, halves}
@@ -106,8 +106,8 @@ refused_only : (a : Trees) → halves a ≡ None → (tree a ≡ ○) ⊎ (has_f
 refused_only a e = ⊎_elim (λ z. inl (ap (tree_of 6) z ∙ tree_empty 6)) inr (cut_refused a.cells (halves_refused a e))
 
 refused_then : (a : Trees) → (tree a ≡ ○) ⊎ (has_filled_cell 6 (tree a) ≡ true) → halves a ≡ None
-refused_then a (inl e) = ap (λ o. then o (λ p. Some (both p))) (sym (cut_empty a.cells (empty_tree a e)))
-refused_then a (inr e) = ap (λ o. then o (λ p. Some (both p))) (sym (cut_cell a.cells e))
+refused_then a (inl e) = ap (λ o. bind o (λ p. Some (both p))) (sym (cut_empty a.cells (empty_tree a e)))
+refused_then a (inr e) = ap (λ o. bind o (λ p. Some (both p))) (sym (cut_cell a.cells e))
 
 pub canonical_trees : SharesAreCanonicalTrees
 canonical_trees = record {

@@ -8,7 +8,7 @@ use Rattle.std.proofs.lemmas.Nat.{or_lt, and_comm, or_disjoint, and_mask}
 use Rattle.std.specs.Int.Bits.{and_zero_r}
 use Rattle.std.proofs.Math.Dec.{eqb_refl}
 use Rattle.std.proofs.lemmas.Bool.{eq-eqb, ne_eqb, eqb-true, eqb-false, cond-true, cond-false, cases_eq, or_cases, or_parts, or_from, or_left, or_right}
-use Rattle.shares.specs.Kind.{Laws, then}
+use Rattle.shares.specs.Kind.{Laws, bind}
 use Rattle.trees.specs.declared.trees.Trees.{Trees}
 use Rattle.trees.specs.Tree.{kept, lent, has_filled_cell}
 use Rattle.trees.specs.Cells.{trees_of_cells, tree_of, cells_of, tree, union, cut, halves, trees_kind}
@@ -62,42 +62,42 @@ commutes a b = go (cases_eq (bit_and a.cells b.cells) 0)
     go (inr d) = union_none a b d ∙ sym (union_none b a (λ e. d (and_comm a.cells b.cells ∙ e)))
 
 -- three shares joined from the left: defined exactly where each two are apart
-left_none : (a b c : Trees) → ((bit_and a.cells b.cells ≡ 0) → (bit_and a.cells c.cells ≡ 0) → (bit_and b.cells c.cells ≡ 0) → ⊥) → then (union a b) (λ ab. union ab c) ≡ None
+left_none : (a b c : Trees) → ((bit_and a.cells b.cells ≡ 0) → (bit_and a.cells c.cells ≡ 0) → (bit_and b.cells c.cells ≡ 0) → ⊥) → bind (union a b) (λ ab. union ab c) ≡ None
 unfolding sum
 left_none a b c n = go (cases_eq (bit_and a.cells b.cells) 0)
   where
-    go : (bit_and a.cells b.cells ≡ 0) ⊎ (bit_and a.cells b.cells ≢ 0) → then (union a b) (λ ab. union ab c) ≡ None
+    go : (bit_and a.cells b.cells ≡ 0) ⊎ (bit_and a.cells b.cells ≢ 0) → bind (union a b) (λ ab. union ab c) ≡ None
     go (inl d) =
-        ap (λ o. then o (λ ab. union ab c)) (union_some a b (sum a b d) d refl)
+        ap (λ o. bind o (λ ab. union ab c)) (union_some a b (sum a b d) d refl)
         ∙ union_none (sum a b d) c (λ e. let p = apart_parts a.cells b.cells c.cells d e in n d p.0 p.1)
-    go (inr d) = ap (λ o. then o (λ ab. union ab c)) (union_none a b d)
+    go (inr d) = ap (λ o. bind o (λ ab. union ab c)) (union_none a b d)
 
-left_some : (a b c s : Trees) → bit_and a.cells b.cells ≡ 0 → bit_and a.cells c.cells ≡ 0 → bit_and b.cells c.cells ≡ 0 → s.cells ≡ a.cells + b.cells + c.cells → then (union a b) (λ ab. union ab c) ≡ Some s
+left_some : (a b c s : Trees) → bit_and a.cells b.cells ≡ 0 → bit_and a.cells c.cells ≡ 0 → bit_and b.cells c.cells ≡ 0 → s.cells ≡ a.cells + b.cells + c.cells → bind (union a b) (λ ab. union ab c) ≡ Some s
 unfolding sum
 left_some a b c s d e f g =
-    ap (λ o. then o (λ ab. union ab c)) (union_some a b (sum a b d) d refl)
+    ap (λ o. bind o (λ ab. union ab c)) (union_some a b (sum a b d) d refl)
     ∙ union_some (sum a b d) c s (apart_union a.cells b.cells c.cells d e f) g
 
 -- from the right is from the left in the other order
-turn : (a b c : Trees) → then (union b c) (λ bc. union a bc) ≡ then (union b c) (λ bc. union bc a)
+turn : (a b c : Trees) → bind (union b c) (λ bc. union a bc) ≡ bind (union b c) (λ bc. union bc a)
 turn a b c = go (union b c)
   where
-    go : (o : Option Trees) → then o (λ bc. union a bc) ≡ then o (λ bc. union bc a)
+    go : (o : Option Trees) → bind o (λ bc. union a bc) ≡ bind o (λ bc. union bc a)
     go None = refl
     go (Some x) = commutes a x
 
-associates : (a b c : Trees) → then (union a b) (λ ab. union ab c) ≡ then (union b c) (λ bc. union a bc)
+associates : (a b c : Trees) → bind (union a b) (λ ab. union ab c) ≡ bind (union b c) (λ bc. union a bc)
 unfolding sum
 associates a b c = go (cases_eq (bit_and a.cells b.cells) 0) (cases_eq (bit_and a.cells c.cells) 0) (cases_eq (bit_and b.cells c.cells) 0) ∙ sym (turn a b c)
   where
     swap : (x y : Trees) → bit_and x.cells y.cells ≡ 0 → bit_and y.cells x.cells ≡ 0
     swap x y e = and_comm y.cells x.cells ∙ e
 
-    neither : ((bit_and a.cells b.cells ≡ 0) → (bit_and a.cells c.cells ≡ 0) → (bit_and b.cells c.cells ≡ 0) → ⊥) → then (union a b) (λ ab. union ab c) ≡ then (union b c) (λ bc. union bc a)
+    neither : ((bit_and a.cells b.cells ≡ 0) → (bit_and a.cells c.cells ≡ 0) → (bit_and b.cells c.cells ≡ 0) → ⊥) → bind (union a b) (λ ab. union ab c) ≡ bind (union b c) (λ bc. union bc a)
     neither n = left_none a b c n ∙ sym (left_none b c a (λ p q r. n (swap b a q) (swap c a r) p))
 
     go : (bit_and a.cells b.cells ≡ 0) ⊎ (bit_and a.cells b.cells ≢ 0) → (bit_and a.cells c.cells ≡ 0) ⊎ (bit_and a.cells c.cells ≢ 0) → (bit_and b.cells c.cells ≡ 0) ⊎ (bit_and b.cells c.cells ≢ 0)
-        → then (union a b) (λ ab. union ab c) ≡ then (union b c) (λ bc. union bc a)
+        → bind (union a b) (λ ab. union ab c) ≡ bind (union b c) (λ bc. union bc a)
     go (inl p) (inl q) (inl r) =
         let s = sum (sum a b p) c (apart_union a.cells b.cells c.cells p q r) in
         left_some a b c s p q r refl ∙ sym (left_some b c a s r (swap a b p) (swap a c q) (omega arith))
@@ -177,7 +177,7 @@ parts_fit n p e =
 pub halves_is : (a k l : Trees) → halves a ≡ Some (k, l) → Cut a.cells k.cells l.cells
 halves_is a k l = go (cut a.cells) refl
   where
-    go : (o : Option (ℕ × ℕ)) → cut a.cells ≡ o → then o (λ p. Some (both p)) ≡ Some (k, l) → Cut a.cells k.cells l.cells
+    go : (o : Option (ℕ × ℕ)) → cut a.cells ≡ o → bind o (λ p. Some (both p)) ≡ Some (k, l) → Cut a.cells k.cells l.cells
     go None f e = let z : ◌≡◌ {A = ℕ} 0 1 = cc in absurd (omega arith)
     go (Some p) f e =
         let q : ◌≡◌ {A = Trees × Trees} (both p) (k, l) = cc in
@@ -188,7 +188,7 @@ halves_is a k l = go (cut a.cells) refl
 pub halves_refused : (a : Trees) → halves a ≡ None → cut a.cells ≡ None
 halves_refused a = go (cut a.cells) refl
   where
-    go : (o : Option (ℕ × ℕ)) → cut a.cells ≡ o → then o (λ p. Some (both p)) ≡ None → o ≡ None
+    go : (o : Option (ℕ × ℕ)) → cut a.cells ≡ o → bind o (λ p. Some (both p)) ≡ None → o ≡ None
     go None f e = refl
     go (Some p) f e = let z : ◌≡◌ {A = ℕ} 0 1 = cc in absurd (omega arith)
 

@@ -1,4 +1,4 @@
-// Tree shares: sets of 64 cells, which join, halve and print as the binary trees of Dockins, Hobor and Appel.
+//! Tree shares: sets of 64 cells, which join, halve and print as the binary trees of Dockins, Hobor and Appel.
 #![tactic(auto)]
 
 mod block;

@@ -5,7 +5,7 @@ use crate::digits::Digits;
 use itoa::Buffer;
 
 impl Digits {
-    // The digits of `n`, without leading zeros.
+    /// The digits of `n`, without leading zeros.
     pub fn of(n: u32) -> Digits
         ensures { digits_of result ≡ decimal n }
     {
@@ -17,7 +17,7 @@ impl Digits {
         Digits { bytes, count }
     }
 
-    // The bytes of the digits.
+    /// The bytes of the digits.
     pub fn as_slice(&self) -> &[u8]
         ensures is { result.now ≡ digits_of self.now }
         ensures most { length result.now ≤ 10 }

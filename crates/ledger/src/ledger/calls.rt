@@ -45,7 +45,7 @@ impl<'a, S: Share> Office for Ledger<'a, S> {
 
     ghost rows = { rows_of };
 
-    ghost lent = { loan_of };
+    ghost loan = { loan_of };
 
     ghost layers = { λ ledger. [] };
 

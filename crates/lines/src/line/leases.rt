@@ -13,7 +13,7 @@ use lending::{Lease, lending_is_conserved};
 use office::Office;
 use shares::Printed;
 
-// Writes the line of the live lease at a position of the roll, from 0. It says `w` exactly if the holder may write.
+/// Writes the line of the live lease at a position of the roll, from 0. It says `w` exactly if the holder may write.
 pub fn lease_line<O: Office>(
     office: &O,
     position: usize,
@@ -21,11 +21,11 @@ pub fn lease_line<O: Office>(
 ) -> Result<usize, LineReason>
 where
     O::Kind: Printed,
-    ensures answers { line_written result ≡ line_answer (line_at O.Kind.Share.kind O.Kind.Printed.text (O.Office.meaning office.now).core.roll position) space.old }
-    ensures leaves { space.new ≡ space_after (line_at O.Kind.Share.kind O.Kind.Printed.text (O.Office.meaning office.now).core.roll position) space.old }
-    ensures short { LinesAreShort O.Kind.Share.kind O.Kind.Printed.text (O.Office.meaning office.now) }
-    ensures letters { LettersTell O.Kind.Share.kind (O.Office.meaning office.now) }
-    ensures always { LendingConserved O.Kind.Share.kind }
+    ensures answers { line_written result ≡ line_answer (line_at O.Kind.kind O.Kind.text (O.meaning office.now).core.roll position) space.old }
+    ensures leaves { space.new ≡ space_after (line_at O.Kind.kind O.Kind.text (O.meaning office.now).core.roll position) space.old }
+    ensures short { LinesAreShort O.Kind.kind O.Kind.text (O.meaning office.now) }
+    ensures letters { LettersTell O.Kind.kind (O.meaning office.now) }
+    ensures always { LendingConserved O.Kind.kind }
 {
     lending_is_conserved::<O::Kind>();
     let lease = live_lease(office, position)?;
@@ -39,9 +39,9 @@ where
 fn live_lease<O: Office>(office: &O, position: usize) -> Result<Lease<O::Kind>, LineReason>
 where
     O::Kind: Printed,
-    ensures is { result ≡ ok_or (slice_get (O.Office.meaning office.now).core.roll position) NoSuchPosition }
-    ensures short { LinesAreShort O.Kind.Share.kind O.Kind.Printed.text (O.Office.meaning office.now) }
-    ensures letters { LettersTell O.Kind.Share.kind (O.Office.meaning office.now) }
+    ensures is { result ≡ ok_or (slice_get (O.meaning office.now).core.roll position) NoSuchPosition }
+    ensures short { LinesAreShort O.Kind.kind O.Kind.text (O.meaning office.now) }
+    ensures letters { LettersTell O.Kind.kind (O.meaning office.now) }
 {
     lending_is_conserved::<O::Kind>();
     lease_at(office, position)
@@ -51,7 +51,7 @@ where
 
 // Whether the holder of a lease may write its resource.
 fn holder_may_write<O: Office>(office: &O, lease: Lease<O::Kind>) -> bool
-    ensures { result ≡ writes O.Kind.Share.kind (O.Office.meaning office.now).core.roll lease }
+    ensures { result ≡ writes O.Kind.kind (O.meaning office.now).core.roll lease }
 {
     may_write(office, lease.resource, lease.holder)
 }

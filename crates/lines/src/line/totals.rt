@@ -6,24 +6,24 @@ ghost use Rattle.lines.specs.Lines.{total_line};
 use super::{Line, put, write_field, write_number};
 use crate::reason::LineReason;
 
-// The totals of a printout.
+/// The totals of a printout.
 #[derive(Clone, Copy, PartialEq, Eq, Debug)]
 pub struct Totals {
-    // how many numbers the office issued
+    /// how many numbers the office issued
     pub issued: usize,
-    // how many leases are live
+    /// how many leases are live
     pub live: usize,
-    // how many events with a yield were granted
+    /// how many events with a yield were granted
     pub yielded: usize,
-    // how many events with a merge were granted
+    /// how many events with a merge were granted
     pub merged: usize,
-    // how many leases the granted recalls closed
+    /// how many leases the granted recalls closed
     pub recalled: usize,
-    // how many leases the granted days closed
+    /// how many leases the granted days closed
     pub lapsed: usize,
 }
 
-// Writes the line of the totals.
+/// Writes the line of the totals.
 pub fn total_line(totals: Totals, space: &mut [u8]) -> Result<usize, LineReason>
     ensures answers { line_written result ≡ line_answer (Some (total_line totals)) space.old }
     ensures leaves { space.new ≡ space_after (Some (total_line totals)) space.old }
