@@ -10,13 +10,13 @@ use Rattle.lending.specs.Outcome.Answer.{done, number, refused}
 use Rattle.lending.specs.History.{Moment, yielded, merged, recalled, lapsed}
 use Rattle.lending.specs.Layers.{Layers, pile}
 use Rattle.lending.specs.Play.{play}
-use Rattle.quota.specs.Means.{quota_objects}
-use Rattle.term.specs.Means.{term_objects}
-use Rattle.chain.specs.Means.{chain_objects}
+use Rattle.quota.specs.Means.{quota_rule}
+use Rattle.term.specs.Means.{term_rule}
+use Rattle.chain.specs.Means.{chain_rule}
 use Rattle.printout.specs.Tenancy.{book_printout as printed_of}
 
 abbrev pub layers : Layers Trees
-layers = quota_objects 64 ∷ term_objects 30 ∷ chain_objects 2 ∷ []
+layers = quota_rule 64 ∷ term_rule 30 ∷ chain_rule 2 ∷ []
 
 abbrev pub calls : List Call
 calls = open_resource 7 1 ∷ delegate 1 2 20 ∷ delegate 2 3 10 ∷ delegate 3 4 5 ∷ yield 2 ∷ day 10 ∷ assign 2 1 ∷ delegate 1 5 41 ∷ delegate 1 5 40 ∷ recall 2 ∷ []

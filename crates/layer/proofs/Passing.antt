@@ -28,13 +28,13 @@ module _ {S : Type 0} where
   done_up (Err f) (Err g) e = ap (λ h. done_or_refused (Err h)) e
 
 module _ {S : Type 0} (K : Kind S) (mine : Own S) (s t : State S) where
-  up : (c : Call) (a b : Answer S) → b ≡ passed_up a → Passes (mine s.core.roll s.core.today) c → Does K s c a t → Does K (layered mine s) c b (layered mine t)
+  up : (c : Call) (a b : Answer S) → b ≡ passed_up a → Passes (mine.objects s.core.roll s.core.today) c → Does K s c a t → Does K (layered mine s) c b (layered mine t)
   up c a b e pass d = subst (λ (x : Answer S). Does K (layered mine s) c x (layered mine t)) (sym e) (layer_is_office K mine s t c a pass d)
 
-  pub opened : (resource holder : ℕ) (r q : Result ℕ Refusal) → Raised r q → None ≡ mine s.core.roll s.core.today (opening resource holder) → Does K s (open_resource resource holder) (number_or_refused r) t → Does K (layered mine s) (open_resource resource holder) (number_or_refused q) (layered mine t)
+  pub opened : (resource holder : ℕ) (r q : Result ℕ Refusal) → Raised r q → None ≡ mine.objects s.core.roll s.core.today (opening resource holder) → Does K s (open_resource resource holder) (number_or_refused r) t → Does K (layered mine s) (open_resource resource holder) (number_or_refused q) (layered mine t)
   opened resource holder r q e none = up (open_resource resource holder) (number_or_refused r) (number_or_refused q) (number_up r q e) (sym none)
 
-  pub delegated : (lender holder due : ℕ) (r q : Result ℕ Refusal) → Raised r q → None ≡ mine s.core.roll s.core.today (delegating lender holder due) → Does K s (delegate lender holder due) (number_or_refused r) t → Does K (layered mine s) (delegate lender holder due) (number_or_refused q) (layered mine t)
+  pub delegated : (lender holder due : ℕ) (r q : Result ℕ Refusal) → Raised r q → None ≡ mine.objects s.core.roll s.core.today (delegating lender holder due) → Does K s (delegate lender holder due) (number_or_refused r) t → Does K (layered mine s) (delegate lender holder due) (number_or_refused q) (layered mine t)
   delegated lender holder due r q e none = up (delegate lender holder due) (number_or_refused r) (number_or_refused q) (number_up r q e) (sym none)
 
   pub merged : (a b : ℕ) (r q : Result (Unit {0}) Refusal) → Raised r q → Does K s (merge a b) (done_or_refused r) t → Does K (layered mine s) (merge a b) (done_or_refused q) (layered mine t)

@@ -19,11 +19,11 @@ pub struct Layer<O, R> {
 impl<O: Office, R: Rule<O>> Layer<O, R> {
     /// The layer over an office, with its rule.
     pub fn new(below: O, rule: R) -> Layer<O, R>
-        ensures stands { ⟦<Layer<O, R> as Office>⟧.meaning result ≡ layered (R.objects rule) (O.meaning below) }
+        ensures stands { ⟦<Layer<O, R> as Office>⟧.meaning result ≡ layered (R.own rule) (O.meaning below) }
         ensures set_up { SetUp (O.meaning below) → SetUp (⟦<Layer<O, R> as Office>⟧.meaning result) }
         ensures rows { ⟦<Layer<O, R> as Office>⟧.rows result ≡ O.rows below }
         ensures lent { ⟦<Layer<O, R> as Office>⟧.loan result ≡ O.loan below }
-        ensures layers { ⟦<Layer<O, R> as Office>⟧.layers result ≡ R.objects rule ∷ O.layers below }
+        ensures layers { ⟦<Layer<O, R> as Office>⟧.layers result ≡ R.own rule ∷ O.layers below }
     {
         Layer { below, rule }
     }
@@ -33,10 +33,10 @@ impl<O: Office, R: Rule<O>> Layer<O, R> {
     where
         R: Drop,
         ensures is { result ≡ self.below }
-        ensures stands { ⟦<Layer<O, R> as Office>⟧.meaning self ≡ layered (R.objects self.rule) (O.meaning result) }
+        ensures stands { ⟦<Layer<O, R> as Office>⟧.meaning self ≡ layered (R.own self.rule) (O.meaning result) }
         ensures rows { ⟦<Layer<O, R> as Office>⟧.rows self ≡ O.rows result }
         ensures lent { ⟦<Layer<O, R> as Office>⟧.loan self ≡ O.loan result }
-        ensures layers { ⟦<Layer<O, R> as Office>⟧.layers self ≡ R.objects self.rule ∷ O.layers result }
+        ensures layers { ⟦<Layer<O, R> as Office>⟧.layers self ≡ R.own self.rule ∷ O.layers result }
     {
         let Layer { below, .. } = self;
         below
@@ -44,7 +44,7 @@ impl<O: Office, R: Rule<O>> Layer<O, R> {
 
     // Refuses what the rule objects to.
     fn allow(&self, request: Request) -> Result<(), Refusal>
-        ensures { let s = O.meaning self.now.below in let mine = R.objects self.now.rule s.core.roll s.core.today (request_meant request) in MatchResult result (λ x. mine ≡ None) (λ refusal. (mine ≡ Some (reason_number refusal.reason)) × (refusal.level ≡ 0)) }
+        ensures { let s = O.meaning self.now.below in let mine = (R.own self.now.rule).objects s.core.roll s.core.today (request_meant request) in MatchResult result (λ x. mine ≡ None) (λ refusal. (mine ≡ Some (reason_number refusal.reason)) × (refusal.level ≡ 0)) }
     {
         match self.rule.objection(&self.below, request) {
             Some(reason) => Err(reason.into()),
@@ -56,15 +56,15 @@ impl<O: Office, R: Rule<O>> Layer<O, R> {
 impl<O: Office, R: Rule<O>> Office for Layer<O, R> {
     type Kind = O::Kind;
 
-    ghost meaning = { λ layer. layered (R.objects layer.rule) (O.meaning layer.below) };
+    ghost meaning = { λ layer. layered (R.own layer.rule) (O.meaning layer.below) };
 
     ghost rows = { λ layer. O.rows layer.below };
 
     ghost loan = { λ layer. O.loan layer.below };
 
-    ghost layers = { λ layer. R.objects layer.rule ∷ O.layers layer.below };
+    ghost layers = { λ layer. R.own layer.rule ∷ O.layers layer.below };
 
-    ghost lawful = { layer_lawful O.meaning O.rows R.objects O.lawful };
+    ghost lawful = { layer_lawful O.meaning O.rows R.own O.lawful };
 
     fn count(&self) -> usize {
         self.below.count()
@@ -124,5 +124,5 @@ impl<O: Office, R: Rule<O>> Office for Layer<O, R> {
 }
 
 impl<O: Piled, R: Rule<O>> Piled for Layer<O, R> {
-    ghost follow = { layer_follows O.meaning O.layers R.objects O.follow };
+    ghost follow = { layer_follows O.meaning O.layers R.own O.follow };
 }

@@ -17,10 +17,10 @@ pub enum Request {
 
 /// What a layer adds to an office: its own objections.
 pub trait Rule<O: Office> {
-    /// What it objects to, by the roll and today of the office below: the number of a reason, or none.
-    ghost objects: { Self → Own O.Kind };
+    /// What it does of its own: what it objects to, by the roll and today of the office below.
+    ghost own: { Self → Own O.Kind };
 
     /// The reason why it objects to a request, if it does.
     fn objection(&self, below: &O, request: Request) -> Option<Reason>
-        ensures { option_map reason_number result ≡ objects self.now (O.meaning below.now).core.roll (O.meaning below.now).core.today (request_meant request) };
+        ensures { option_map reason_number result ≡ (own self.now).objects (O.meaning below.now).core.roll (O.meaning below.now).core.today (request_meant request) };
 }

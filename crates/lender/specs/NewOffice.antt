@@ -5,16 +5,16 @@ use Rattle.lending.specs.Limits.{most_rows}
 use Rattle.lending.specs.Office.{State, new_ledger}
 use Rattle.lending.specs.Layers.{Layers, pile}
 use Rattle.lending.specs.History.{Moment}
-use Rattle.quota.specs.Means.{quota_objects}
-use Rattle.term.specs.Means.{term_objects}
-use Rattle.chain.specs.Means.{chain_objects}
+use Rattle.quota.specs.Means.{quota_rule}
+use Rattle.term.specs.Means.{term_rule}
+use Rattle.chain.specs.Means.{chain_rule}
 use Rattle.calls.specs.declared.call.Call.{Call}
 use Rattle.calls.specs.Plays.{play_in_turn}
 
 module _ {S : Type 0} where
   -- the three layers with their numbers, the outermost first
   abbrev pub layers : (quota term chain : ℕ) → Layers S
-  layers quota term chain = quota_objects quota ∷ term_objects term ∷ chain_objects chain ∷ []
+  layers quota term chain = quota_rule quota ∷ term_rule term ∷ chain_rule chain ∷ []
 
   -- what a new office with them over so many rows stands for
   abbrev pub new_office : (quota term chain rows : ℕ) → State S

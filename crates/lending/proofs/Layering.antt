@@ -15,7 +15,7 @@ use Rattle.lending.specs.Office.Request.{opening, delegating, assigning}
 use Rattle.lending.specs.Outcome.Call.{open_resource, delegate, yield, merge, assign, new_day, ask_count, ask_issued, ask_today, ask_lease_at, ask_lease, recall, day, standing, hand_in}
 use Rattle.lending.specs.Outcome.Answer.{done, number, lease, refused}
 use Rattle.lending.specs.Outcome.Outcome.{refuses, tells, grants}
-use Rattle.lending.specs.Layers.{deeper, layered, own_or_raised, raise, passed_up, Passes, LayerIsOffice}
+use Rattle.lending.specs.Layers.{Own, deeper, layered, own_or_raised, raise, passed_up, Passes, LayerIsOffice}
 
 -- an office one deeper refuses one level further up
 one_up : (depth n : ℕ) → refused_at (depth + 1) n ≡ raise (refused_at depth n)
@@ -57,7 +57,7 @@ module _ {S : Type 0} where
   up_at level maybe.none = up_refuses (one_up level 15)
   up_at level (maybe.some l) = up_tells refl
 
-  ends_up : (mine : List (Lease S) → ℕ → Request → Option ℕ) (s t : State S) (a : Answer S) {o p : Outcome S} → Up o p → Ends o s a t → Ends p (layered mine s) (passed_up a) (layered mine t)
+  ends_up : (mine : Own S) (s t : State S) (a : Answer S) {o p : Outcome S} → Up o p → Ends o s a t → Ends p (layered mine s) (passed_up a) (layered mine t)
   ends_up mine s t a (up_refuses {r = r} {r' = r'} e) x = (ap passed_up x.0 ∙ ap (λ (q : Refusal). refused q) (sym e), ap (layered mine) x.1)
   ends_up mine s t a (up_tells e) x = (ap passed_up x.0 ∙ sym e, ap (layered mine) x.1)
   ends_up mine s t a (up_grants {u = u} {v = v} e l) x = (
@@ -65,15 +65,15 @@ module _ {S : Type 0} where
     ap deeper x.1 ∙ sym l,
   )
 
-  module _ (K : Kind S) (mine : List (Lease S) → ℕ → Request → Option ℕ) (s : State S) where
+  module _ (K : Kind S) (mine : Own S) (s : State S) where
     abbrev over : State S
     over = layered mine s
 
     grown : (a : Answer S) (u v : State S) → a ≡ passed_up a → Lifted u v → Up (grants a u) (grants a v)
     grown a u v e l = up_grants e l
 
-    up_open : (r h : ℕ) → mine s.core.roll s.core.today (opening r h) ≡ None → Up (perform K s (open_resource r h)) (perform K over (open_resource r h))
-    up_open r h e = up_objected (mine s.core.roll s.core.today (opening r h)) (s.objections (opening r h)) (unless s.core.depth checks (grants (number (s.core.issued + 1)) u)) (unless (s.core.depth + 1) checks (grants (number (s.core.issued + 1)) v)) e
+    up_open : (r h : ℕ) → mine.objects s.core.roll s.core.today (opening r h) ≡ None → Up (perform K s (open_resource r h)) (perform K over (open_resource r h))
+    up_open r h e = up_objected (mine.objects s.core.roll s.core.today (opening r h)) (s.objections (opening r h)) (unless s.core.depth checks (grants (number (s.core.issued + 1)) u)) (unless (s.core.depth + 1) checks (grants (number (s.core.issued + 1)) v)) e
         (up_unless s.core.depth checks (grants (number (s.core.issued + 1)) u) (grants (number (s.core.issued + 1)) v) (grown (number (s.core.issued + 1)) u v refl refl))
       where
         checks : List (Bool × ℕ)
@@ -85,8 +85,8 @@ module _ {S : Type 0} where
         v : State S
         v = issue (first_lease K (s.core.issued + 1) r h) over
 
-    up_delegate : (p h d : ℕ) → mine s.core.roll s.core.today (delegating p h d) ≡ None → Up (perform K s (delegate p h d)) (perform K over (delegate p h d))
-    up_delegate p h d e = up_objected (mine s.core.roll s.core.today (delegating p h d)) (s.objections (delegating p h d)) (need_live s.core.depth (find s.core.roll p) (whole s)) (need_live (s.core.depth + 1) (find s.core.roll p) (whole over)) e
+    up_delegate : (p h d : ℕ) → mine.objects s.core.roll s.core.today (delegating p h d) ≡ None → Up (perform K s (delegate p h d)) (perform K over (delegate p h d))
+    up_delegate p h d e = up_objected (mine.objects s.core.roll s.core.today (delegating p h d)) (s.objections (delegating p h d)) (need_live s.core.depth (find s.core.roll p) (whole s)) (need_live (s.core.depth + 1) (find s.core.roll p) (whole over)) e
         (up_live s.core.depth (find s.core.roll p) (whole s) (whole over) (λ l.
         up_unless s.core.depth (checks₁ l) (need_halves s.core.depth (K.halve l.share) (halved s l)) (need_halves (s.core.depth + 1) (K.halve l.share) (halved over l))
         (up_halves s.core.depth (K.halve l.share) (halved s l) (halved over l) (λ kept lent.
@@ -129,8 +129,8 @@ module _ {S : Type 0} where
         first : State S → Lease S → Outcome S
         first z x = need_live z.core.depth (find s.core.roll b) (second z x)
 
-    up_assign : (n h : ℕ) → mine s.core.roll s.core.today (assigning n h) ≡ None → Up (perform K s (assign n h)) (perform K over (assign n h))
-    up_assign n h e = up_objected (mine s.core.roll s.core.today (assigning n h)) (s.objections (assigning n h)) (need_live s.core.depth (find s.core.roll n) (out s)) (need_live (s.core.depth + 1) (find s.core.roll n) (out over)) e
+    up_assign : (n h : ℕ) → mine.objects s.core.roll s.core.today (assigning n h) ≡ None → Up (perform K s (assign n h)) (perform K over (assign n h))
+    up_assign n h e = up_objected (mine.objects s.core.roll s.core.today (assigning n h)) (s.objections (assigning n h)) (need_live s.core.depth (find s.core.roll n) (out s)) (need_live (s.core.depth + 1) (find s.core.roll n) (out over)) e
         (up_live s.core.depth (find s.core.roll n) (out s) (out over) (λ l. up_unless s.core.depth (checks l) (grants done (held s)) (grants done (held over)) (grown done (held s) (held over) refl refl)))
       where
         checks : Lease S → List (Bool × ℕ)
@@ -142,7 +142,7 @@ module _ {S : Type 0} where
         out : State S → Lease S → Outcome S
         out x l = unless x.core.depth (checks l) (grants done (held x))
 
-    ups : (c : Call) → Passes (mine s.core.roll s.core.today) c → Up (perform K s c) (perform K over c)
+    ups : (c : Call) → Passes (mine.objects s.core.roll s.core.today) c → Up (perform K s c) (perform K over c)
     ups (open_resource r h) e = up_open r h e
     ups (delegate p h d) e = up_delegate p h d e
     ups (yield n) e = up_yield n

@@ -46,9 +46,10 @@ Passes mine (day d) = ⊥
 Passes mine (standing r h) = ⊥
 Passes mine (hand_in n) = ⊥
 
--- what a layer objects to by itself, by the roll and today: the number of a refusal, or none
-abbrev pub Own : Type 0 → Type 0
-Own S = List (Lease S) → ℕ → Request → Option ℕ
+-- What a layer does of its own.
+pub record Own (S : Type 0) : Type 0 where
+  -- what it objects to by itself, by the roll and today: the number of a refusal, or none
+  pub objects : List (Lease S) → ℕ → Request → Option ℕ
 
 -- the same of each layer of an office, the outermost first
 abbrev pub Layers : Type 0 → Type 0
@@ -58,7 +59,7 @@ module _ {S : Type 0} where
   -- what layers object to together over a ledger, which has no objections
   abbrev pub objections : Layers S → List (Lease S) → ℕ → Request → Option Refusal
   objections [] roll today q = None
-  objections (mine ∷ below) roll today q = own_or_raised (mine roll today q) (objections below roll today q)
+  objections (mine ∷ below) roll today q = own_or_raised (mine.objects roll today q) (objections below roll today q)
 
   -- The objections of an office with these layers follow from the roll and today.
   abbrev pub Follow : Layers S → State S → Type 0
@@ -73,7 +74,7 @@ module _ {S : Type 0} where
   layered mine s =
       record {
         core = deeper s.core;
-        objections = λ q. own_or_raised (mine s.core.roll s.core.today q) (s.objections q);
+        objections = λ q. own_or_raised (mine.objects s.core.roll s.core.today q) (s.objections q);
       }
 
   -- some layers, the outermost first, over an office
@@ -92,4 +93,4 @@ module _ {S : Type 0} where
   -- A layer is an office: where it has no objection of its own, what the office below does, passed up, is what an office
   -- does that stands for the layered state.
   abbrev pub LayerIsOffice : Kind S → Type 0
-  LayerIsOffice K = (mine : Own S) (s t : State S) (c : Call) (a : Answer S) → Passes (mine s.core.roll s.core.today) c → Does K s c a t → Does K (layered mine s) c (passed_up a) (layered mine t)
+  LayerIsOffice K = (mine : Own S) (s t : State S) (c : Call) (a : Answer S) → Passes (mine.objects s.core.roll s.core.today) c → Does K s c a t → Does K (layered mine s) c (passed_up a) (layered mine t)

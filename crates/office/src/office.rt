@@ -1,4 +1,4 @@
-ghost use Rattle.std.specs.Prelude.{◌≡◌, ℕ, false, List, is_ok};
+ghost use Rattle.std.specs.Prelude.{ℕ, List};
 ghost use Rattle.lending.specs.declared.lease.Lease.{Lease};
 ghost use Rattle.lending.specs.Layers.{Layers};
 ghost use Rattle.lending.specs.Office.{State};
@@ -6,15 +6,14 @@ ghost use Rattle.lending.specs.Outcome.Call.{open_resource, delegate, yield, mer
 ghost use Rattle.lending.specs.Outcome.Answer.{number};
 ghost use Rattle.lending.specs.Perform.{Does};
 ghost use Rattle.lending.specs.Answers.{done_or_refused, number_or_refused, lease_or_refused};
-ghost use Rattle.office.specs.Lawful.{Lawful, unused};
+ghost use Rattle.office.specs.Lawful.{Lawful};
+ghost use Rattle.office.specs.Performs.{Performs};
 
 use lending::{Lease, Refusal};
 use shares::Share;
 
-/// An office. Each call does to what the office stands for what the definitions say (`does`); a refusal leaves the whole
-/// office as it was (`same`); the rows that it never uses stay as they are (`unused`), what its layers object to stays too
-/// (`layers`), and its rows stay the very ones that were lent to it (`lent`). These stand on each call, and in no type, since they
-/// speak of an office before and after it. What an office objects to may change with each granted call.
+/// An office. Each call that changes it performs what the definitions say, and leaves alone what no call changes (`Performs`).
+/// What an office objects to may change with each granted call.
 pub trait Office {
     /// The kind of share that it leases.
     type Kind: Share;
@@ -58,25 +57,25 @@ pub trait Office {
 
     /// Opens a resource: the holder gets its first lease, with the whole. Answers its number.
     fn open(&mut self, resource: u16, holder: u16) -> Result<u16, Refusal>
-        ensures performs { Performs Self.Kind.kind meaning rows loan layers (open_resource resource holder) (number_or_refused result) self.old self.new };
+        ensures { Performs rows loan layers Self.Kind.kind meaning (open_resource resource holder) (number_or_refused result) self.old self.new };
 
     /// Lends half of a lease's share to a holder, until a day. Answers the new lease's number.
     fn delegate(&mut self, lender: u16, holder: u16, due: u16) -> Result<u16, Refusal>
-        ensures performs { Performs Self.Kind.kind meaning rows loan layers (delegate lender holder due) (number_or_refused result) self.old self.new };
+        ensures { Performs rows loan layers Self.Kind.kind meaning (delegate lender holder due) (number_or_refused result) self.old self.new };
 
     /// Closes a lease, and joins its share to its lender's.
     fn yield_lease(&mut self, lease: u16) -> Result<(), Refusal>
-        ensures performs { Performs Self.Kind.kind meaning rows loan layers (yield lease) (done_or_refused result) self.old self.new };
+        ensures { Performs rows loan layers Self.Kind.kind meaning (yield lease) (done_or_refused result) self.old self.new };
 
     /// Closes lease b; lease a gets both shares, and lends what b lent.
     fn merge(&mut self, a: u16, b: u16) -> Result<(), Refusal>
-        ensures performs { Performs Self.Kind.kind meaning rows loan layers (merge a b) (done_or_refused result) self.old self.new };
+        ensures { Performs rows loan layers Self.Kind.kind meaning (merge a b) (done_or_refused result) self.old self.new };
 
     /// Changes the holder of a lease.
     fn assign(&mut self, lease: u16, holder: u16) -> Result<(), Refusal>
-        ensures performs { Performs Self.Kind.kind meaning rows loan layers (assign lease holder) (done_or_refused result) self.old self.new };
+        ensures { Performs rows loan layers Self.Kind.kind meaning (assign lease holder) (done_or_refused result) self.old self.new };
 
     /// Changes today.
     fn set_day(&mut self, day: u16) -> Result<(), Refusal>
-        ensures performs { Performs Self.Kind.kind meaning rows loan layers (new_day day) (done_or_refused result) self.old self.new };
+        ensures { Performs rows loan layers Self.Kind.kind meaning (new_day day) (done_or_refused result) self.old self.new };
 }

@@ -7,9 +7,9 @@ use Rattle.counting.specs.Counts.{counting_kind, permission_text}
 use Rattle.shares.specs.Kind.{Kind}
 use Rattle.lending.specs.Office.{State, new_ledger}
 use Rattle.lending.specs.Layers.{Layers, pile}
-use Rattle.quota.specs.Means.{quota_objects}
-use Rattle.term.specs.Means.{term_objects}
-use Rattle.chain.specs.Means.{chain_objects}
+use Rattle.quota.specs.Means.{quota_rule}
+use Rattle.term.specs.Means.{term_rule}
+use Rattle.chain.specs.Means.{chain_rule}
 use Rattle.book.specs.declared.header.Header.{Header}
 use Rattle.book.specs.Books.{opening, event_count}
 use Rattle.replay.specs.Whole.{RunConserved}
@@ -20,7 +20,7 @@ use Rattle.printout.specs.Readable.{IsReadable}
 module _ {S : Type 0} where
   -- the layers of a book's office, the outermost first
   abbrev pub layers : Header → Layers S
-  layers header = quota_objects 64 ∷ term_objects header.term ∷ chain_objects header.chain ∷ []
+  layers header = quota_rule 64 ∷ term_rule header.term ∷ chain_rule header.chain ∷ []
 
   -- what a new office with them stands for: a ledger of 1,024 rows under them
   abbrev pub new_office : Header → State S

@@ -1,8 +1,8 @@
 ghost use Rattle.std.specs.Prelude.{◌≡◌, ◌∷◌, ◌++◌, IfOk, OnOk};
 ghost use Rattle.lending.specs.Layers.{layered, pile};
-ghost use Rattle.quota.specs.Means.{quota_objects};
-ghost use Rattle.term.specs.Means.{term_objects};
-ghost use Rattle.chain.specs.Means.{chain_objects};
+ghost use Rattle.quota.specs.Means.{quota_rule};
+ghost use Rattle.term.specs.Means.{term_rule};
+ghost use Rattle.chain.specs.Means.{chain_rule};
 ghost use Rattle.book.specs.Numbers.{book_reason_number};
 ghost use Rattle.printout.specs.Printouts.{contents};
 ghost use Rattle.printout.specs.Readable.{NoLineBreak, IsReadable};
@@ -91,24 +91,24 @@ where
 // Quota over an office. Each layer of a book's office is made in a function of its own, so that a wrong number is refused where
 // it stands.
 fn with_quota<O: Office>(below: O) -> Layer<O, Quota>
-    ensures stands { ⟦<Layer<O, Quota> as Office>⟧.meaning result ≡ layered (quota_objects 64) (O.meaning below) }
-    ensures layers { ⟦<Layer<O, Quota> as Office>⟧.layers result ≡ quota_objects 64 ∷ O.layers below }
+    ensures stands { ⟦<Layer<O, Quota> as Office>⟧.meaning result ≡ layered (quota_rule 64) (O.meaning below) }
+    ensures layers { ⟦<Layer<O, Quota> as Office>⟧.layers result ≡ quota_rule 64 ∷ O.layers below }
 {
     Quota::over(below, QUOTA)
 }
 
 // Term over an office, with the number in the book's header.
 fn with_term<O: Office>(below: O, header: Header) -> Layer<O, Term>
-    ensures stands { ⟦<Layer<O, Term> as Office>⟧.meaning result ≡ layered (term_objects header.term) (O.meaning below) }
-    ensures layers { ⟦<Layer<O, Term> as Office>⟧.layers result ≡ term_objects header.term ∷ O.layers below }
+    ensures stands { ⟦<Layer<O, Term> as Office>⟧.meaning result ≡ layered (term_rule header.term) (O.meaning below) }
+    ensures layers { ⟦<Layer<O, Term> as Office>⟧.layers result ≡ term_rule header.term ∷ O.layers below }
 {
     Term::over(below, header.term)
 }
 
 // Chain over an office, with the number in the book's header.
 fn with_chain<O: Office>(below: O, header: Header) -> Layer<O, Chain>
-    ensures stands { ⟦<Layer<O, Chain> as Office>⟧.meaning result ≡ layered (chain_objects header.chain) (O.meaning below) }
-    ensures layers { ⟦<Layer<O, Chain> as Office>⟧.layers result ≡ chain_objects header.chain ∷ O.layers below }
+    ensures stands { ⟦<Layer<O, Chain> as Office>⟧.meaning result ≡ layered (chain_rule header.chain) (O.meaning below) }
+    ensures layers { ⟦<Layer<O, Chain> as Office>⟧.layers result ≡ chain_rule header.chain ∷ O.layers below }
 {
     Chain::over(below, u16::from(header.chain))
 }

@@ -1,7 +1,7 @@
 ghost use Rattle.std.specs.Prelude.{◌≡◌, ◌∷◌};
 ghost use Rattle.lending.specs.Layers.{layered};
 ghost use Rattle.lending.specs.Office.{SetUp};
-ghost use Rattle.term.specs.Means.{term_objects};
+ghost use Rattle.term.specs.Means.{term_rule};
 
 use layer::{Layer, Request, Rule};
 use lending::Reason;
@@ -17,18 +17,18 @@ impl Term {
     /// The layer with this rule over an office. It says by the definition of this rule what the layer stands for, which
     /// `Layer::new` can say of no rule in particular.
     pub fn over<O: Office>(below: O, days: u16) -> Layer<O, Term>
-        ensures stands { ⟦<Layer<O, Term> as Office>⟧.meaning result ≡ layered (term_objects days) (O.meaning below) }
+        ensures stands { ⟦<Layer<O, Term> as Office>⟧.meaning result ≡ layered (term_rule days) (O.meaning below) }
         ensures set_up { SetUp (O.meaning below) → SetUp (⟦<Layer<O, Term> as Office>⟧.meaning result) }
         ensures rows { ⟦<Layer<O, Term> as Office>⟧.rows result ≡ O.rows below }
         ensures lent { ⟦<Layer<O, Term> as Office>⟧.loan result ≡ O.loan below }
-        ensures layers { ⟦<Layer<O, Term> as Office>⟧.layers result ≡ term_objects days ∷ O.layers below }
+        ensures layers { ⟦<Layer<O, Term> as Office>⟧.layers result ≡ term_rule days ∷ O.layers below }
     {
         Layer::new(below, Term { days })
     }
 }
 
 impl<O: Office> Rule<O> for Term {
-    ghost objects = { λ term. term_objects term.days };
+    ghost own = { λ term. term_rule term.days };
 
     fn objection(&self, below: &O, request: Request) -> Option<Reason> {
         let Request::Delegate { due, .. } = request else {
