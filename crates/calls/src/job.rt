@@ -4,7 +4,7 @@ ghost use Rattle.lending.specs.Idle.{idle};
 ghost use Rattle.lending.specs.Outcome.Call.{hand_in};
 ghost use Rattle.lending.specs.Perform.{perform};
 ghost use Rattle.lending.specs.Promise.{LendingConserved};
-ghost use Rattle.office.specs.Lawful.{unused};
+ghost use Rattle.office.specs.Calls.{Keeps};
 ghost use Rattle.calls.specs.Jobs.{Until, JobDone};
 ghost use Rattle.calls.specs.Quiet.{AllIdle};
 
@@ -40,7 +40,7 @@ struct Stopped {
 pub fn do_job<O: Office>(office: &mut O, lease: u16, calls: &[Call]) -> Job
     ensures done { JobDone O.Kind.kind O.meaning O.layers office.old lease calls.now result office.new }
     ensures idle { AllIdle O.Kind.kind (O.meaning office.old) calls.now → idle (perform O.Kind.kind (O.meaning office.old) (hand_in lease)) ≡ true → office.new ≡ office.old }
-    ensures keeps { Keeps O.rows O.loan O.layers office.old office.new }
+    ensures keeps { Keeps O.Office office.old office.new }
     ensures always { LendingConserved O.Kind.kind }
 {
     let slip = Slip::draw(lease);
@@ -71,7 +71,7 @@ pub fn do_job<O: Office>(office: &mut O, lease: u16, calls: &[Call]) -> Job
 fn make_until_refused<O: Office>(office: &mut O, calls: &[Call]) -> Result<Tallies, Stopped>
     ensures until { MatchResult result (λ tallies. Until O.Kind.kind O.meaning O.layers office.old calls.now (length calls.now) None tallies office.new) (λ stopped. Until O.Kind.kind O.meaning O.layers office.old calls.now stopped.made (Some stopped.refusal) stopped.tallies office.new) }
     ensures idle { AllIdle O.Kind.kind (O.meaning office.old) calls.now → office.new ≡ office.old }
-    ensures keeps { Keeps O.rows O.loan O.layers office.old office.new }
+    ensures keeps { Keeps O.Office office.old office.new }
     ensures always { LendingConserved O.Kind.kind }
 {
     lending_is_conserved::<O::Kind>();

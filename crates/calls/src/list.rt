@@ -2,7 +2,7 @@
 ghost use Rattle.std.specs.Prelude.{◌≡◌, MatchOption};
 ghost use Rattle.lending.specs.Choice.{ListsLeaveNoChoice};
 ghost use Rattle.lending.specs.Promise.{LendingConserved};
-ghost use Rattle.office.specs.Lawful.{unused};
+ghost use Rattle.office.specs.Calls.{Keeps};
 ghost use Rattle.calls.specs.Values.{call_meant, answer_meant};
 ghost use Rattle.calls.specs.Lists.{ListMade, TooLarge, tallies_with};
 ghost use Rattle.calls.specs.Plays.{ListPlayed};
@@ -60,7 +60,7 @@ pub fn make_all<O: Office>(office: &mut O, calls: &[Call]) -> Tallies
     ensures played { ListPlayed O.Kind.kind O.meaning O.layers office.old calls.now result office.new }
     ensures one_result { ListsLeaveNoChoice O.Kind.kind }
     ensures idle { AllIdle O.Kind.kind (O.meaning office.old) calls.now → office.new ≡ office.old }
-    ensures keeps { Keeps O.rows O.loan O.layers office.old office.new }
+    ensures keeps { Keeps O.Office office.old office.new }
     ensures always { LendingConserved O.Kind.kind }
 {
     calls_leave_no_choice::<O::Kind>();
@@ -73,7 +73,7 @@ fn make_each<O: Office>(office: &mut O, calls: &[Call]) -> Tallies
     ensures made { ListMade O.Kind.kind O.meaning O.layers office.old calls.now result office.new }
     ensures played { ListPlayed O.Kind.kind O.meaning O.layers office.old calls.now result office.new }
     ensures idle { AllIdle O.Kind.kind (O.meaning office.old) calls.now → office.new ≡ office.old }
-    ensures keeps { Keeps O.rows O.loan O.layers office.old office.new }
+    ensures keeps { Keeps O.Office office.old office.new }
     ensures always { LendingConserved O.Kind.kind }
 {
     lending_is_conserved::<O::Kind>();

@@ -4,7 +4,7 @@ ghost use Rattle.lending.specs.Choice.{CallsLeaveNoChoice};
 ghost use Rattle.lending.specs.Idle.{idle};
 ghost use Rattle.lending.specs.Promise.{LendingConserved, CallConserves};
 ghost use Rattle.lending.specs.Answers.{number_or_refused};
-ghost use Rattle.office.specs.Lawful.{unused};
+ghost use Rattle.office.specs.Calls.{Performs, Conserves};
 ghost use Rattle.calls.specs.Values.{call_meant, answer_meant};
 
 use crate::call::{Answer, Call};
@@ -18,10 +18,10 @@ use shares::Share;
 
 /// Makes a call that is given as a value.
 pub fn make<O: Office>(office: &mut O, call: Call) -> Result<Answer<O::Kind>, Refusal>
-    ensures performs { Performs O.Kind.kind O.meaning O.rows O.loan O.layers (call_meant call) (answer_meant result) office.old office.new }
+    ensures performs { Performs O.Kind.kind O.Office (call_meant call) (answer_meant result) office.old office.new }
     ensures one_result { CallsLeaveNoChoice O.Kind.kind }
     ensures idle { idle (perform O.Kind.kind (O.meaning office.old) (call_meant call)) ≡ true → office.new ≡ office.old }
-    ensures conserved { CallConserves O.Kind.kind (O.meaning office.old) (call_meant call) (answer_meant result) (O.meaning office.new) }
+    ensures conserved { Conserves O.Kind.kind O.Office (call_meant call) (answer_meant result) office.old office.new }
     ensures always { LendingConserved O.Kind.kind }
 {
     lending_is_conserved::<O::Kind>();
@@ -32,7 +32,7 @@ pub fn make<O: Office>(office: &mut O, call: Call) -> Result<Answer<O::Kind>, Re
 // Makes the call by the function of `desk` that has its name.
 #[tactic(auto, using(lending::proofs::Idling::idle_open, lending::proofs::Idling::idle_delegate, lending::proofs::Idling::idle_yield, lending::proofs::Idling::idle_merge, lending::proofs::Idling::idle_assign, lending::proofs::Idling::idle_day, lending::proofs::Idling::idle_recall, lending::proofs::Idling::idle_next))]
 fn ask<O: Office>(office: &mut O, call: Call) -> Result<Answer<O::Kind>, Refusal>
-    ensures performs { Performs O.Kind.kind O.meaning O.rows O.loan O.layers (call_meant call) (answer_meant result) office.old office.new }
+    ensures performs { Performs O.Kind.kind O.Office (call_meant call) (answer_meant result) office.old office.new }
     ensures idle { idle (perform O.Kind.kind (O.meaning office.old) (call_meant call)) ≡ true → office.new ≡ office.old }
 {
     match call {

@@ -2,6 +2,7 @@ ghost use Rattle.std.specs.Prelude.{◌≡◌, ◌∷◌};
 ghost use Rattle.lending.specs.Layers.{layered};
 ghost use Rattle.lending.specs.Office.{SetUp};
 ghost use Rattle.lending.specs.Roll.{find, height};
+ghost use Rattle.layer.specs.Covers.{Covers};
 ghost use Rattle.chain.specs.Means.{lender_of_lease, chain_rule};
 
 use layer::{Layer, Request, Rule};
@@ -18,11 +19,7 @@ impl Chain {
     /// The layer with this rule over an office. It says by the definition of this rule what the layer stands for, which
     /// `Layer::new` can say of no rule in particular.
     pub fn over<O: Office>(below: O, limit: u16) -> Layer<O, Chain>
-        ensures stands { ⟦<Layer<O, Chain> as Office>⟧.meaning result ≡ layered (chain_rule limit) (O.meaning below) }
-        ensures set_up { SetUp (O.meaning below) → SetUp (⟦<Layer<O, Chain> as Office>⟧.meaning result) }
-        ensures rows { ⟦<Layer<O, Chain> as Office>⟧.rows result ≡ O.rows below }
-        ensures lent { ⟦<Layer<O, Chain> as Office>⟧.loan result ≡ O.loan below }
-        ensures layers { ⟦<Layer<O, Chain> as Office>⟧.layers result ≡ chain_rule limit ∷ O.layers below }
+        ensures covers { Covers ⟦<Layer<O, Chain> as Office>⟧ O.Office (chain_rule limit) result below }
     {
         Layer::new(below, Chain { limit })
     }

@@ -1,7 +1,6 @@
 -- What yields from the last of some numbers to the first come to, where they are those of a family or those that fall due.
 use Rattle.std.proofs.Common.{◌≡◌, ℕ, Bool, true, false, cond, not, List, map, length, reverse, Ok, Err, Result, sym, refl, ap, ◌∙◌, subst, arith}
 use Rattle.std.specs.List.{filter}
-use Rattle.std.specs.Prelude.{is_ok}
 use Rattle.std.specs.Result.{result_unwrap_or}
 use Rattle.std.proofs.lemmas.List.{length-reverse}
 use Rattle.std.proofs.lemmas.Bool.{cond-true, cond-false}
@@ -9,7 +8,7 @@ use Rattle.lending.specs.declared.lease.Lease.{Lease}
 use Rattle.lending.specs.declared.refusal.Refusal.{Refusal}
 use Rattle.shares.specs.Kind.{Kind}
 use Rattle.lending.specs.Office.{State}
-use Rattle.lending.specs.Outcome.{Answer, Outcome}
+use Rattle.lending.specs.Outcome.{Answer, Outcome, is_refused}
 use Rattle.lending.specs.Outcome.Answer.{done, number}
 use Rattle.lending.specs.Outcome.Call.{recall, day, new_day, hand_in}
 use Rattle.lending.specs.Outcome.Outcome.{refuses, tells, grants}
@@ -48,10 +47,10 @@ module _ {S : Type 0} (K : Kind S) (s : State S) (rows : List (Lease S)) (law : 
       go false e (Err f) d = subst (λ (o : Outcome S). Ends o s (number 0) t) (sym (cond-false (live s.core.roll n) (recall_all K s n) (tells (number 0)) e)) (refl, d.1)
 
   -- a hand-in that changes nothing recalls nothing
-  pub idle_hand_in : (n : ℕ) (t : State S) (r : Result ℕ Refusal) → Does K s (recall n) (number_or_refused r) t → idle (perform K s (hand_in n)) ≡ true → is_ok r ≡ false
+  pub idle_hand_in : (n : ℕ) (t : State S) (r : Result ℕ Refusal) → Does K s (recall n) (number_or_refused r) t → idle (perform K s (hand_in n)) ≡ true → is_refused (number_or_refused {S = S} r) ≡ true
   idle_hand_in n t r d i = go (live s.core.roll n) refl r d i
     where
-      go : (b : Bool) → live s.core.roll n ≡ b → (r : Result ℕ Refusal) → Ends (cond (not b) (refuses (record { number = 6; level = 0 })) (recall_all K s n)) s (number_or_refused r) t → idle (cond b (recall_all K s n) (tells (number 0))) ≡ true → is_ok r ≡ false
+      go : (b : Bool) → live s.core.roll n ≡ b → (r : Result ℕ Refusal) → Ends (cond (not b) (refuses (record { number = 6; level = 0 })) (recall_all K s n)) s (number_or_refused r) t → idle (cond b (recall_all K s n) (tells (number 0))) ≡ true → is_refused (number_or_refused {S = S} r) ≡ true
       go true e r d i = let g = recall_granted K s law.orderly n e in let w : idle {S = S} (grants (number (length (downward (family s.core.roll n)))) g.0) ≡ true = ap idle (sym g.1) ∙ i in absurd (let z : ◌≡◌ {A = ℕ} 0 1 = cc in omega arith)
       go false e (Ok k) d i = absurd (let z : ◌≡◌ {A = ℕ} 0 1 = (let w = d.0 in cc) in omega arith)
       go false e (Err f) d i = refl

@@ -4,15 +4,15 @@ ghost use Rattle.lending.specs.Outcome.Call.{open_resource, delegate, yield, mer
 ghost use Rattle.lending.specs.Perform.{Does};
 ghost use Rattle.lending.specs.Promise.{LendingConserved, CallConserves};
 ghost use Rattle.lending.specs.Answers.{done_or_refused, number_or_refused};
-ghost use Rattle.office.specs.Lawful.{unused};
+ghost use Rattle.office.specs.Calls.{Performs, Conserves};
 
 use lending::{Refusal, lending_is_conserved};
 use office::Office;
 
 /// Opens a resource: the holder gets its first lease, with the whole. Answers its number.
 pub fn open<O: Office>(office: &mut O, resource: u16, holder: u16) -> Result<u16, Refusal>
-    ensures performs { Performs O.Kind.kind O.meaning O.rows O.loan O.layers (open_resource resource holder) (number_or_refused result) office.old office.new }
-    ensures conserved { CallConserves O.Kind.kind (O.meaning office.old) (open_resource resource holder) (number_or_refused result) (O.meaning office.new) }
+    ensures performs { Performs O.Kind.kind O.Office (open_resource resource holder) (number_or_refused result) office.old office.new }
+    ensures conserved { Conserves O.Kind.kind O.Office (open_resource resource holder) (number_or_refused result) office.old office.new }
     ensures always { LendingConserved O.Kind.kind }
 {
     lending_is_conserved::<O::Kind>();
@@ -26,8 +26,8 @@ pub fn delegate<O: Office>(
     holder: u16,
     due: u16,
 ) -> Result<u16, Refusal>
-    ensures performs { Performs O.Kind.kind O.meaning O.rows O.loan O.layers (delegate lender holder due) (number_or_refused result) office.old office.new }
-    ensures conserved { CallConserves O.Kind.kind (O.meaning office.old) (delegate lender holder due) (number_or_refused result) (O.meaning office.new) }
+    ensures performs { Performs O.Kind.kind O.Office (delegate lender holder due) (number_or_refused result) office.old office.new }
+    ensures conserved { Conserves O.Kind.kind O.Office (delegate lender holder due) (number_or_refused result) office.old office.new }
     ensures always { LendingConserved O.Kind.kind }
 {
     lending_is_conserved::<O::Kind>();
@@ -36,8 +36,8 @@ pub fn delegate<O: Office>(
 
 /// Closes a lease, and joins its share to its lender's.
 pub fn yield_lease<O: Office>(office: &mut O, lease: u16) -> Result<(), Refusal>
-    ensures performs { Performs O.Kind.kind O.meaning O.rows O.loan O.layers (yield lease) (done_or_refused result) office.old office.new }
-    ensures conserved { CallConserves O.Kind.kind (O.meaning office.old) (yield lease) (done_or_refused result) (O.meaning office.new) }
+    ensures performs { Performs O.Kind.kind O.Office (yield lease) (done_or_refused result) office.old office.new }
+    ensures conserved { Conserves O.Kind.kind O.Office (yield lease) (done_or_refused result) office.old office.new }
     ensures always { LendingConserved O.Kind.kind }
 {
     lending_is_conserved::<O::Kind>();
@@ -46,8 +46,8 @@ pub fn yield_lease<O: Office>(office: &mut O, lease: u16) -> Result<(), Refusal>
 
 /// Closes lease b; lease a gets both shares, and lends what b lent.
 pub fn merge<O: Office>(office: &mut O, a: u16, b: u16) -> Result<(), Refusal>
-    ensures performs { Performs O.Kind.kind O.meaning O.rows O.loan O.layers (merge a b) (done_or_refused result) office.old office.new }
-    ensures conserved { CallConserves O.Kind.kind (O.meaning office.old) (merge a b) (done_or_refused result) (O.meaning office.new) }
+    ensures performs { Performs O.Kind.kind O.Office (merge a b) (done_or_refused result) office.old office.new }
+    ensures conserved { Conserves O.Kind.kind O.Office (merge a b) (done_or_refused result) office.old office.new }
     ensures always { LendingConserved O.Kind.kind }
 {
     lending_is_conserved::<O::Kind>();
@@ -56,8 +56,8 @@ pub fn merge<O: Office>(office: &mut O, a: u16, b: u16) -> Result<(), Refusal>
 
 /// Changes the holder of a lease.
 pub fn assign<O: Office>(office: &mut O, lease: u16, holder: u16) -> Result<(), Refusal>
-    ensures performs { Performs O.Kind.kind O.meaning O.rows O.loan O.layers (assign lease holder) (done_or_refused result) office.old office.new }
-    ensures conserved { CallConserves O.Kind.kind (O.meaning office.old) (assign lease holder) (done_or_refused result) (O.meaning office.new) }
+    ensures performs { Performs O.Kind.kind O.Office (assign lease holder) (done_or_refused result) office.old office.new }
+    ensures conserved { Conserves O.Kind.kind O.Office (assign lease holder) (done_or_refused result) office.old office.new }
     ensures always { LendingConserved O.Kind.kind }
 {
     lending_is_conserved::<O::Kind>();
@@ -66,8 +66,8 @@ pub fn assign<O: Office>(office: &mut O, lease: u16, holder: u16) -> Result<(), 
 
 /// Changes today.
 pub fn set_day<O: Office>(office: &mut O, day: u16) -> Result<(), Refusal>
-    ensures performs { Performs O.Kind.kind O.meaning O.rows O.loan O.layers (new_day day) (done_or_refused result) office.old office.new }
-    ensures conserved { CallConserves O.Kind.kind (O.meaning office.old) (new_day day) (done_or_refused result) (O.meaning office.new) }
+    ensures performs { Performs O.Kind.kind O.Office (new_day day) (done_or_refused result) office.old office.new }
+    ensures conserved { Conserves O.Kind.kind O.Office (new_day day) (done_or_refused result) office.old office.new }
     ensures always { LendingConserved O.Kind.kind }
 {
     lending_is_conserved::<O::Kind>();

@@ -1,4 +1,4 @@
-ghost use Rattle.std.specs.Prelude.{◌≡◌, true, false, is_ok, map};
+ghost use Rattle.std.specs.Prelude.{◌≡◌, OnOk, map, false};
 ghost use Rattle.std.specs.List.{filter};
 ghost use Rattle.lending.specs.Calls.{bad_day, due_by};
 ghost use Rattle.lending.specs.Effects.{DayComes};
@@ -7,7 +7,7 @@ ghost use Rattle.lending.specs.Outcome.Call.{day as next_day};
 ghost use Rattle.lending.specs.Perform.{Does};
 ghost use Rattle.lending.specs.Promise.{LendingConserved, CallConserves};
 ghost use Rattle.lending.specs.Answers.{number_or_refused};
-ghost use Rattle.office.specs.Lawful.{unused};
+ghost use Rattle.office.specs.Calls.{Performs, Keeps, Conserves};
 
 use crate::sweep::{Numbers, yield_down};
 use lending::{LAST_DAY, Reason, Refusal, lending_is_conserved};
@@ -15,9 +15,9 @@ use office::{Office, leases};
 
 /// Closes every lease that falls due by a day, then sets the day, and answers how many it closed.
 pub fn day<O: Office>(office: &mut O, day: u16) -> Result<usize, Refusal>
-    ensures performs { Performs O.Kind.kind O.meaning O.rows O.loan O.layers (next_day day) (number_or_refused result) office.old office.new }
-    ensures comes { is_ok result ≡ true → DayComes O.Kind.kind (O.meaning office.old) day (O.meaning office.new) }
-    ensures conserved { CallConserves O.Kind.kind (O.meaning office.old) (next_day day) (number_or_refused result) (O.meaning office.new) }
+    ensures performs { Performs O.Kind.kind O.Office (next_day day) (number_or_refused result) office.old office.new }
+    ensures comes { OnOk result (DayComes O.Kind.kind (O.meaning office.old) day (O.meaning office.new)) }
+    ensures conserved { Conserves O.Kind.kind O.Office (next_day day) (number_or_refused result) office.old office.new }
     ensures always { LendingConserved O.Kind.kind }
 {
     lending_is_conserved::<O::Kind>();
@@ -32,7 +32,7 @@ pub fn day<O: Office>(office: &mut O, day: u16) -> Result<usize, Refusal>
 fn move_to<O: Office>(office: &mut O, day: u16) -> usize
     requires { bad_day (O.meaning office.old) day ≡ false }
     ensures does { Does O.Kind.kind (O.meaning office.old) (next_day day) (number result) (O.meaning office.new) }
-    ensures keeps { Keeps O.rows O.loan O.layers office.old office.new }
+    ensures keeps { Keeps O.Office office.old office.new }
 {
     let numbers = due_of(office, day);
     yield_down(office, numbers.as_slice());

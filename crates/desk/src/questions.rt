@@ -3,6 +3,7 @@ ghost use Rattle.std.specs.Prelude.{◌≡◌};
 ghost use Rattle.lending.specs.Outcome.Call.{ask_count, ask_issued, ask_today, ask_lease_at, ask_lease};
 ghost use Rattle.lending.specs.Outcome.Answer.{number};
 ghost use Rattle.lending.specs.Perform.{Does};
+ghost use Rattle.office.specs.Calls.{Conserves, Tells};
 ghost use Rattle.lending.specs.Promise.{LendingConserved, CallConserves};
 ghost use Rattle.lending.specs.Answers.{lease_or_refused};
 ghost use Rattle.office.specs.ToCome.{leases_to_come};
@@ -12,8 +13,8 @@ use office::{LiveLeases, Office};
 
 /// How many leases are live.
 pub fn count<O: Office>(office: &O) -> usize
-    ensures does { Does O.Kind.kind (O.meaning office.now) ask_count (number result) (O.meaning office.now) }
-    ensures conserved { CallConserves O.Kind.kind (O.meaning office.now) ask_count (number result) (O.meaning office.now) }
+    ensures does { Tells O.Kind.kind O.Office ask_count (number result) office.now }
+    ensures conserved { Conserves O.Kind.kind O.Office ask_count (number result) office.now office.now }
     ensures always { LendingConserved O.Kind.kind }
 {
     lending_is_conserved::<O::Kind>();
@@ -22,8 +23,8 @@ pub fn count<O: Office>(office: &O) -> usize
 
 /// How many numbers were issued.
 pub fn issued<O: Office>(office: &O) -> u16
-    ensures does { Does O.Kind.kind (O.meaning office.now) ask_issued (number result) (O.meaning office.now) }
-    ensures conserved { CallConserves O.Kind.kind (O.meaning office.now) ask_issued (number result) (O.meaning office.now) }
+    ensures does { Tells O.Kind.kind O.Office ask_issued (number result) office.now }
+    ensures conserved { Conserves O.Kind.kind O.Office ask_issued (number result) office.now office.now }
     ensures always { LendingConserved O.Kind.kind }
 {
     lending_is_conserved::<O::Kind>();
@@ -32,8 +33,8 @@ pub fn issued<O: Office>(office: &O) -> u16
 
 /// Today.
 pub fn today<O: Office>(office: &O) -> u16
-    ensures does { Does O.Kind.kind (O.meaning office.now) ask_today (number result) (O.meaning office.now) }
-    ensures conserved { CallConserves O.Kind.kind (O.meaning office.now) ask_today (number result) (O.meaning office.now) }
+    ensures does { Tells O.Kind.kind O.Office ask_today (number result) office.now }
+    ensures conserved { Conserves O.Kind.kind O.Office ask_today (number result) office.now office.now }
     ensures always { LendingConserved O.Kind.kind }
 {
     lending_is_conserved::<O::Kind>();
@@ -42,8 +43,8 @@ pub fn today<O: Office>(office: &O) -> u16
 
 /// The live lease at a position of the roll, from 0.
 pub fn lease_at<O: Office>(office: &O, position: usize) -> Result<Lease<O::Kind>, Refusal>
-    ensures does { Does O.Kind.kind (O.meaning office.now) (ask_lease_at position) (lease_or_refused result) (O.meaning office.now) }
-    ensures conserved { CallConserves O.Kind.kind (O.meaning office.now) (ask_lease_at position) (lease_or_refused result) (O.meaning office.now) }
+    ensures does { Tells O.Kind.kind O.Office (ask_lease_at position) (lease_or_refused result) office.now }
+    ensures conserved { Conserves O.Kind.kind O.Office (ask_lease_at position) (lease_or_refused result) office.now office.now }
     ensures always { LendingConserved O.Kind.kind }
 {
     lending_is_conserved::<O::Kind>();
@@ -52,8 +53,8 @@ pub fn lease_at<O: Office>(office: &O, position: usize) -> Result<Lease<O::Kind>
 
 /// The live lease with a number.
 pub fn lease<O: Office>(office: &O, lease: u16) -> Result<Lease<O::Kind>, Refusal>
-    ensures does { Does O.Kind.kind (O.meaning office.now) (ask_lease lease) (lease_or_refused result) (O.meaning office.now) }
-    ensures conserved { CallConserves O.Kind.kind (O.meaning office.now) (ask_lease lease) (lease_or_refused result) (O.meaning office.now) }
+    ensures does { Tells O.Kind.kind O.Office (ask_lease lease) (lease_or_refused result) office.now }
+    ensures conserved { Conserves O.Kind.kind O.Office (ask_lease lease) (lease_or_refused result) office.now office.now }
     ensures always { LendingConserved O.Kind.kind }
 {
     lending_is_conserved::<O::Kind>();

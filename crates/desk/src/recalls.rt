@@ -8,7 +8,7 @@ ghost use Rattle.lending.specs.Perform.{Does};
 ghost use Rattle.lending.specs.Promise.{LendingConserved, CallConserves};
 ghost use Rattle.lending.specs.Roll.{live, family};
 ghost use Rattle.lending.specs.Answers.{number_or_refused};
-ghost use Rattle.office.specs.Lawful.{unused};
+ghost use Rattle.office.specs.Calls.{Performs, Keeps, Conserves};
 
 use crate::sweep::{Numbers, yield_down};
 use lending::{Reason, Refusal, lending_is_conserved};
@@ -16,9 +16,9 @@ use office::{Office, leases};
 
 /// Closes a lease and all under it, and answers how many.
 pub fn recall<O: Office>(office: &mut O, lease: u16) -> Result<usize, Refusal>
-    ensures performs { Performs O.Kind.kind O.meaning O.rows O.loan O.layers (recall lease) (number_or_refused result) office.old office.new }
+    ensures performs { Performs O.Kind.kind O.Office (recall lease) (number_or_refused result) office.old office.new }
     ensures takes_back { TakesBack O.Kind.kind (O.meaning office.old) lease (O.meaning office.new) }
-    ensures conserved { CallConserves O.Kind.kind (O.meaning office.old) (recall lease) (number_or_refused result) (O.meaning office.new) }
+    ensures conserved { Conserves O.Kind.kind O.Office (recall lease) (number_or_refused result) office.old office.new }
     ensures always { LendingConserved O.Kind.kind }
 {
     lending_is_conserved::<O::Kind>();
@@ -33,7 +33,7 @@ pub fn recall<O: Office>(office: &mut O, lease: u16) -> Result<usize, Refusal>
 fn take_back<O: Office>(office: &mut O, lease: u16) -> usize
     requires { live (O.meaning office.old).core.roll lease ≡ true }
     ensures does { Does O.Kind.kind (O.meaning office.old) (recall lease) (number result) (O.meaning office.new) }
-    ensures keeps { Keeps O.rows O.loan O.layers office.old office.new }
+    ensures keeps { Keeps O.Office office.old office.new }
 {
     let numbers = family_of(office, lease);
     yield_down(office, numbers.as_slice());

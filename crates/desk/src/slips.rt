@@ -5,7 +5,8 @@ ghost use Rattle.lending.specs.Outcome.Call.{hand_in};
 ghost use Rattle.lending.specs.Perform.{perform, Does};
 ghost use Rattle.lending.specs.Idle.{idle};
 ghost use Rattle.lending.specs.Promise.{LendingConserved, CallConserves};
-ghost use Rattle.office.specs.Lawful.{unused};
+ghost use Rattle.office.specs.Calls.{Performs, Keeps, Conserves};
+ghost use Rattle.desk.specs.Slips.{lease_of, was_handed_in};
 
 use crate::recalls::recall;
 use lending::lending_is_conserved;
@@ -20,7 +21,7 @@ pub struct Slip {
 
 impl Drop for Slip {
     fn drop(self)
-        requires handed_in { self.handed_in ≡ true }
+        requires handed_in { was_handed_in self ≡ true }
     {
         let Self {
             lease: _,
@@ -32,8 +33,8 @@ impl Drop for Slip {
 impl Slip {
     /// Draws a slip for a lease.
     pub fn draw(lease: u16) -> Slip
-        ensures lease { result.lease ≡ lease }
-        ensures drawn { result.handed_in ≡ false }
+        ensures lease { lease_of result ≡ lease }
+        ensures drawn { was_handed_in result ≡ false }
     {
         Slip {
             lease,
@@ -43,11 +44,10 @@ impl Slip {
 
     /// Recalls the lease if it is live, and answers how many leases that closed, else 0.
     pub fn hand_in<O: Office>(mut self, office: &mut O) -> usize
-        ensures does { Does O.Kind.kind (O.meaning office.old) (hand_in self.lease) (number result) (O.meaning office.new) }
-        ensures takes_back { TakesBack O.Kind.kind (O.meaning office.old) self.lease (O.meaning office.new) }
-        ensures idle { idle (perform O.Kind.kind (O.meaning office.old) (hand_in self.lease)) ≡ true → office.new ≡ office.old }
-        ensures keeps { Keeps O.rows O.loan O.layers office.old office.new }
-        ensures conserved { CallConserves O.Kind.kind (O.meaning office.old) (hand_in self.lease) (number result) (O.meaning office.new) }
+        ensures performs { Performs O.Kind.kind O.Office (hand_in (lease_of self)) (number result) office.old office.new }
+        ensures takes_back { TakesBack O.Kind.kind (O.meaning office.old) (lease_of self) (O.meaning office.new) }
+        ensures idle { idle (perform O.Kind.kind (O.meaning office.old) (hand_in (lease_of self))) ≡ true → office.new ≡ office.old }
+        ensures conserved { Conserves O.Kind.kind O.Office (hand_in (lease_of self)) (number result) office.old office.new }
         ensures always { LendingConserved O.Kind.kind }
     {
         lending_is_conserved::<O::Kind>();
@@ -61,7 +61,7 @@ impl Slip {
 fn recall_if_live<O: Office>(office: &mut O, lease: u16) -> usize
     ensures does { Does O.Kind.kind (O.meaning office.old) (hand_in lease) (number result) (O.meaning office.new) }
     ensures idle { idle (perform O.Kind.kind (O.meaning office.old) (hand_in lease)) ≡ true → office.new ≡ office.old }
-    ensures keeps { Keeps O.rows O.loan O.layers office.old office.new }
+    ensures keeps { Keeps O.Office office.old office.new }
 {
     recall(office, lease).unwrap_or(0)
 }

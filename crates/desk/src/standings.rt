@@ -4,6 +4,7 @@ ghost use Rattle.lending.specs.Effects.{StandingJoins, MayWrite};
 ghost use Rattle.lending.specs.Outcome.Answer.{share};
 ghost use Rattle.lending.specs.Outcome.Call.{standing};
 ghost use Rattle.lending.specs.Perform.{Does};
+ghost use Rattle.office.specs.Calls.{Conserves, Tells};
 ghost use Rattle.lending.specs.Promise.{LendingConserved, CallConserves};
 
 use lending::lending_is_conserved;
@@ -12,9 +13,9 @@ use shares::Share;
 
 /// What a holder's shares of a resource join to; the empty share if there are none.
 pub fn standing<O: Office>(office: &O, resource: u16, holder: u16) -> O::Kind
-    ensures does { Does O.Kind.kind (O.meaning office.now) (standing resource holder) (share result) (O.meaning office.now) }
+    ensures does { Tells O.Kind.kind O.Office (standing resource holder) (share result) office.now }
     ensures joins { StandingJoins O.Kind.kind (O.meaning office.now) resource holder result }
-    ensures conserved { CallConserves O.Kind.kind (O.meaning office.now) (standing resource holder) (share result) (O.meaning office.now) }
+    ensures conserved { Conserves O.Kind.kind O.Office (standing resource holder) (share result) office.now office.now }
     ensures always { LendingConserved O.Kind.kind }
 {
     lending_is_conserved::<O::Kind>();

@@ -4,7 +4,7 @@ ghost use Rattle.lending.specs.Above.{yields};
 ghost use Rattle.lending.specs.Office.{State};
 ghost use Rattle.lending.specs.Outcome.Answer.{done};
 ghost use Rattle.lending.specs.Outcome.Outcome.{grants};
-ghost use Rattle.office.specs.Lawful.{unused};
+ghost use Rattle.office.specs.Calls.{Keeps};
 
 use arrayvec::ArrayVec;
 use lending::MOST_ROWS;
@@ -16,7 +16,7 @@ pub(crate) type Numbers = ArrayVec<u16, MOST_ROWS>;
 // Yields these leases from the last to the first. Where the definitions grant all of those yields, this leaves what they do.
 pub(crate) fn yield_down<O: Office>(office: &mut O, numbers: &[u16])
     ensures leaves { (u : State O.Kind) → yields O.Kind.kind (O.meaning office.old) (reverse numbers.now) ≡ grants done u → (O.meaning office.new).core ≡ u.core }
-    ensures keeps { Keeps O.rows O.loan O.layers office.old office.new }
+    ensures keeps { Keeps O.Office office.old office.new }
 {
     for number in numbers.iter().rev() {
         // it is granted, so that there is no refusal to pass on

@@ -4,7 +4,7 @@ ghost use Rattle.lending.specs.Office.Request.{opening};
 ghost use Rattle.lending.specs.Outcome.Call.{open_resource, delegate, yield, merge, assign, new_day};
 ghost use Rattle.lending.specs.Perform.{Does};
 ghost use Rattle.lending.specs.Answers.{reason_number, done_or_refused, number_or_refused};
-ghost use Rattle.office.specs.Lawful.{unused};
+ghost use Rattle.office.specs.Calls.{Keeps};
 ghost use Rattle.fickle.specs.Objects.{fickle_objects, flip, fickle_state};
 
 use lending::{Lease, Reason, Refusal};
@@ -95,7 +95,7 @@ impl<O: Office> Office for Fickle<O> {
         ensures does { Does O.Kind.kind (fickle_state self.old.closed (O.meaning self.old.below)) (open_resource resource holder) (number_or_refused result) (fickle_state self.new.closed (O.meaning self.new.below)) }
         ensures turns { self.new.closed ≡ flip (is_ok result) self.old.closed }
         ensures same { is_ok result ≡ false → self.new ≡ self.old }
-        ensures keeps { Keeps O.rows O.loan O.layers self.old.below self.new.below }
+        ensures keeps { Keeps O.Office self.old.below self.new.below }
     {
         self.allow(resource, holder)?;
         let answer = self.below.open(resource, holder).map_err(Refusal::raised);
@@ -108,7 +108,7 @@ impl<O: Office> Office for Fickle<O> {
         ensures does { Does O.Kind.kind (fickle_state self.old.closed (O.meaning self.old.below)) (delegate lender holder due) (number_or_refused result) (fickle_state self.new.closed (O.meaning self.new.below)) }
         ensures turns { self.new.closed ≡ flip (is_ok result) self.old.closed }
         ensures same { is_ok result ≡ false → self.new ≡ self.old }
-        ensures keeps { Keeps O.rows O.loan O.layers self.old.below self.new.below }
+        ensures keeps { Keeps O.Office self.old.below self.new.below }
     {
         let answer = self
             .below
@@ -123,7 +123,7 @@ impl<O: Office> Office for Fickle<O> {
         ensures does { Does O.Kind.kind (fickle_state self.old.closed (O.meaning self.old.below)) (yield lease) (done_or_refused result) (fickle_state self.new.closed (O.meaning self.new.below)) }
         ensures turns { self.new.closed ≡ flip (is_ok result) self.old.closed }
         ensures same { is_ok result ≡ false → self.new ≡ self.old }
-        ensures keeps { Keeps O.rows O.loan O.layers self.old.below self.new.below }
+        ensures keeps { Keeps O.Office self.old.below self.new.below }
     {
         let answer = self.below.yield_lease(lease).map_err(Refusal::raised);
         self.turn(answer.is_ok());
@@ -135,7 +135,7 @@ impl<O: Office> Office for Fickle<O> {
         ensures does { Does O.Kind.kind (fickle_state self.old.closed (O.meaning self.old.below)) (merge a b) (done_or_refused result) (fickle_state self.new.closed (O.meaning self.new.below)) }
         ensures turns { self.new.closed ≡ flip (is_ok result) self.old.closed }
         ensures same { is_ok result ≡ false → self.new ≡ self.old }
-        ensures keeps { Keeps O.rows O.loan O.layers self.old.below self.new.below }
+        ensures keeps { Keeps O.Office self.old.below self.new.below }
     {
         let answer = self.below.merge(a, b).map_err(Refusal::raised);
         self.turn(answer.is_ok());
@@ -147,7 +147,7 @@ impl<O: Office> Office for Fickle<O> {
         ensures does { Does O.Kind.kind (fickle_state self.old.closed (O.meaning self.old.below)) (assign lease holder) (done_or_refused result) (fickle_state self.new.closed (O.meaning self.new.below)) }
         ensures turns { self.new.closed ≡ flip (is_ok result) self.old.closed }
         ensures same { is_ok result ≡ false → self.new ≡ self.old }
-        ensures keeps { Keeps O.rows O.loan O.layers self.old.below self.new.below }
+        ensures keeps { Keeps O.Office self.old.below self.new.below }
     {
         let answer = self.below.assign(lease, holder).map_err(Refusal::raised);
         self.turn(answer.is_ok());
@@ -159,7 +159,7 @@ impl<O: Office> Office for Fickle<O> {
         ensures does { Does O.Kind.kind (fickle_state self.old.closed (O.meaning self.old.below)) (new_day day) (done_or_refused result) (fickle_state self.new.closed (O.meaning self.new.below)) }
         ensures turns { self.new.closed ≡ flip (is_ok result) self.old.closed }
         ensures same { is_ok result ≡ false → self.new ≡ self.old }
-        ensures keeps { Keeps O.rows O.loan O.layers self.old.below self.new.below }
+        ensures keeps { Keeps O.Office self.old.below self.new.below }
     {
         let answer = self.below.set_day(day).map_err(Refusal::raised);
         self.turn(answer.is_ok());

@@ -3,7 +3,7 @@ ghost use Rattle.std.specs.Prelude.{◌≡◌, false, min, length, []};
 ghost use Rattle.lending.specs.Limits.{most_rows};
 ghost use Rattle.lending.specs.Office.{State, new_ledger};
 ghost use Rattle.lending.specs.Promise.{LendingConserved};
-ghost use Rattle.office.specs.Lawful.{unused};
+ghost use Rattle.office.specs.Calls.{Keeps};
 ghost use Rattle.calls.specs.Lists.{SomeOffice};
 ghost use Rattle.fickle.specs.Objects.{fickle_state};
 ghost use Rattle.fickle.specs.Works.{Worked};
@@ -34,7 +34,7 @@ pub fn work<O: Office>(
     calls: &[Call],
 ) -> Answers
     ensures worked { Worked O.Kind.kind (SomeOffice O.meaning O.layers (O.layers office.old)) (O.meaning office.old) resource holder lease calls.now result (O.meaning office.new) }
-    ensures keeps { Keeps O.rows O.loan O.layers office.old office.new }
+    ensures keeps { Keeps O.Office office.old office.new }
     ensures always { LendingConserved O.Kind.kind }
 {
     let opened = open(office, resource, holder);

@@ -1,2 +1,4 @@
 pub mod Requests
+pub mod Parts
+pub mod Covers
 pub mod Lawful

@@ -2,6 +2,8 @@ ghost use Rattle.std.specs.Prelude.{◌≡◌, ◌∷◌, MatchResult};
 ghost use Rattle.lending.specs.Office.{SetUp};
 ghost use Rattle.lending.specs.Layers.{layered};
 ghost use Rattle.lending.specs.Answers.{reason_number};
+ghost use Rattle.layer.specs.Covers.{Covers};
+ghost use Rattle.layer.specs.Parts.{office_below, rule_of};
 ghost use Rattle.layer.specs.Requests.{request_meant};
 ghost use Rattle.layer.specs.Lawful.{layer_lawful, layer_follows};
 
@@ -19,11 +21,7 @@ pub struct Layer<O, R> {
 impl<O: Office, R: Rule<O>> Layer<O, R> {
     /// The layer over an office, with its rule.
     pub fn new(below: O, rule: R) -> Layer<O, R>
-        ensures stands { ⟦<Layer<O, R> as Office>⟧.meaning result ≡ layered (R.own rule) (O.meaning below) }
-        ensures set_up { SetUp (O.meaning below) → SetUp (⟦<Layer<O, R> as Office>⟧.meaning result) }
-        ensures rows { ⟦<Layer<O, R> as Office>⟧.rows result ≡ O.rows below }
-        ensures lent { ⟦<Layer<O, R> as Office>⟧.loan result ≡ O.loan below }
-        ensures layers { ⟦<Layer<O, R> as Office>⟧.layers result ≡ R.own rule ∷ O.layers below }
+        ensures covers { Covers ⟦<Layer<O, R> as Office>⟧ O.Office (R.own rule) result below }
     {
         Layer { below, rule }
     }
@@ -32,11 +30,8 @@ impl<O: Office, R: Rule<O>> Layer<O, R> {
     pub fn into_below(self) -> O
     where
         R: Drop,
-        ensures is { result ≡ self.below }
-        ensures stands { ⟦<Layer<O, R> as Office>⟧.meaning self ≡ layered (R.own self.rule) (O.meaning result) }
-        ensures rows { ⟦<Layer<O, R> as Office>⟧.rows self ≡ O.rows result }
-        ensures lent { ⟦<Layer<O, R> as Office>⟧.loan self ≡ O.loan result }
-        ensures layers { ⟦<Layer<O, R> as Office>⟧.layers self ≡ R.own self.rule ∷ O.layers result }
+        ensures below { result ≡ office_below self }
+        ensures covers { Covers ⟦<Layer<O, R> as Office>⟧ O.Office (R.own (rule_of self)) self result }
     {
         let Layer { below, .. } = self;
         below

@@ -1,3 +1,4 @@
 pub mod Lawful
 pub mod Performs
+pub mod Calls
 pub mod ToCome

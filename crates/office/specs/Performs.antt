@@ -10,7 +10,7 @@ use Rattle.office.specs.Lawful.{unused}
 
 module _ {O S : Type 0} (rows : O → List (Lease S)) (loan : O → ℕ) (layers : O → Layers S) where
   -- What no call changes: the office `was` has become `now`.
-  pub record Keeps (was now : O) : Type 0 where
+  pub record KeepsBy (was now : O) : Type 0 where
     -- the rows that it never uses stay as they are,
     pub same_unused : unused (rows now) ≡ unused (rows was)
     -- its rows stay the very ones that were lent to it,
@@ -19,9 +19,9 @@ module _ {O S : Type 0} (rows : O → List (Lease S)) (loan : O → ℕ) (layers
     pub same_layers : layers now ≡ layers was
 
   -- The office `was` gave the answer a to the call c, and has become `now`.
-  pub record Performs (K : Kind S) (meaning : O → State S) (c : Call) (a : Answer S) (was now : O) : Type 0 where
+  pub record PerformsBy (K : Kind S) (meaning : O → State S) (c : Call) (a : Answer S) (was now : O) : Type 0 where
     -- what it stands for has become what the definition says,
     pub does : Does K (meaning was) c a (meaning now)
     -- and a refusal leaves the whole office as it was.
     pub same : is_refused a ≡ true → now ≡ was
-    pub keeps : Keeps was now
+    pub keeps : KeepsBy was now

@@ -7,12 +7,12 @@ ghost use Rattle.lending.specs.Outcome.Answer.{number};
 ghost use Rattle.lending.specs.Perform.{Does};
 ghost use Rattle.lending.specs.Answers.{done_or_refused, number_or_refused, lease_or_refused};
 ghost use Rattle.office.specs.Lawful.{Lawful};
-ghost use Rattle.office.specs.Performs.{Performs};
+ghost use Rattle.office.specs.Performs.{PerformsBy};
 
 use lending::{Lease, Refusal};
 use shares::Share;
 
-/// An office. Each call that changes it performs what the definitions say, and leaves alone what no call changes (`Performs`).
+/// An office. Each call that changes it performs what the definitions say, and leaves alone what no call changes (`PerformsBy`).
 /// What an office objects to may change with each granted call.
 pub trait Office {
     /// The kind of share that it leases.
@@ -57,25 +57,25 @@ pub trait Office {
 
     /// Opens a resource: the holder gets its first lease, with the whole. Answers its number.
     fn open(&mut self, resource: u16, holder: u16) -> Result<u16, Refusal>
-        ensures { Performs rows loan layers Self.Kind.kind meaning (open_resource resource holder) (number_or_refused result) self.old self.new };
+        ensures { PerformsBy rows loan layers Self.Kind.kind meaning (open_resource resource holder) (number_or_refused result) self.old self.new };
 
     /// Lends half of a lease's share to a holder, until a day. Answers the new lease's number.
     fn delegate(&mut self, lender: u16, holder: u16, due: u16) -> Result<u16, Refusal>
-        ensures { Performs rows loan layers Self.Kind.kind meaning (delegate lender holder due) (number_or_refused result) self.old self.new };
+        ensures { PerformsBy rows loan layers Self.Kind.kind meaning (delegate lender holder due) (number_or_refused result) self.old self.new };
 
     /// Closes a lease, and joins its share to its lender's.
     fn yield_lease(&mut self, lease: u16) -> Result<(), Refusal>
-        ensures { Performs rows loan layers Self.Kind.kind meaning (yield lease) (done_or_refused result) self.old self.new };
+        ensures { PerformsBy rows loan layers Self.Kind.kind meaning (yield lease) (done_or_refused result) self.old self.new };
 
     /// Closes lease b; lease a gets both shares, and lends what b lent.
     fn merge(&mut self, a: u16, b: u16) -> Result<(), Refusal>
-        ensures { Performs rows loan layers Self.Kind.kind meaning (merge a b) (done_or_refused result) self.old self.new };
+        ensures { PerformsBy rows loan layers Self.Kind.kind meaning (merge a b) (done_or_refused result) self.old self.new };
 
     /// Changes the holder of a lease.
     fn assign(&mut self, lease: u16, holder: u16) -> Result<(), Refusal>
-        ensures { Performs rows loan layers Self.Kind.kind meaning (assign lease holder) (done_or_refused result) self.old self.new };
+        ensures { PerformsBy rows loan layers Self.Kind.kind meaning (assign lease holder) (done_or_refused result) self.old self.new };
 
     /// Changes today.
     fn set_day(&mut self, day: u16) -> Result<(), Refusal>
-        ensures { Performs rows loan layers Self.Kind.kind meaning (new_day day) (done_or_refused result) self.old self.new };
+        ensures { PerformsBy rows loan layers Self.Kind.kind meaning (new_day day) (done_or_refused result) self.old self.new };
 }

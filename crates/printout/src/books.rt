@@ -1,7 +1,7 @@
 ghost use Rattle.std.specs.Prelude.{◌≡◌, ◌≤◌, ◌+◌, ◌++◌, ◌⊎◌, IsErr, IsOk, OnOk, OnErr, drop, length, map, take, vec_len, vec_capacity};
 ghost use Rattle.book.specs.Books.{opening, event_count};
 ghost use Rattle.lending.specs.Promise.{LendingConserved};
-ghost use Rattle.office.specs.Lawful.{unused};
+ghost use Rattle.office.specs.Calls.{Keeps};
 ghost use Rattle.replay.specs.Quiet.{AllQuiet};
 ghost use Rattle.replay.specs.Faults.{refused_event};
 ghost use Rattle.replay.specs.Whole.{RunConserved};
@@ -43,7 +43,7 @@ where
     ensures replayed { vec_len faults.old + event_count book.now ≤ vec_capacity faults.old → O.meaning office.new ≡ state_left O.Kind.kind (O.layers office.old) book.now (O.meaning office.old) }
     ensures room { vec_len faults.old + event_count book.now ≤ vec_capacity faults.old → vec_len out.old + length (printed_bytes O.Kind.kind (O.layers office.old) O.Kind.text book.now (O.meaning office.old)) ≤ vec_capacity out.old → IsOk result }
     ensures conserved { RunConserved O.Kind.kind (O.layers office.old) book.now (O.meaning office.old) (event_count book.now) }
-    ensures keeps { Keeps O.rows O.loan O.layers office.old office.new }
+    ensures keeps { Keeps O.Office office.old office.new }
     ensures always { LendingConserved O.Kind.kind }
 {
     lending_is_conserved::<O::Kind>();
@@ -71,7 +71,7 @@ where
     ensures replayed { vec_len faults.old + event_count book.now ≤ vec_capacity faults.old → O.meaning office.new ≡ state_left O.Kind.kind (O.layers office.old) book.now (O.meaning office.old) }
     ensures room { vec_len faults.old + event_count book.now ≤ vec_capacity faults.old → vec_len out.old + length (printed_bytes O.Kind.kind (O.layers office.old) O.Kind.text book.now (O.meaning office.old)) ≤ vec_capacity out.old → IsOk result }
     ensures conserved { RunConserved O.Kind.kind (O.layers office.old) book.now (O.meaning office.old) (event_count book.now) }
-    ensures keeps { Keeps O.rows O.loan O.layers office.old office.new }
+    ensures keeps { Keeps O.Office office.old office.new }
 {
     let earlier = faults.len();
     match replay(office, book, faults)? {

@@ -2,6 +2,7 @@ ghost use Rattle.std.specs.Prelude.{◌≡◌, ◌∷◌};
 ghost use Rattle.lending.specs.Layers.{layered};
 ghost use Rattle.lending.specs.Office.{SetUp};
 ghost use Rattle.lending.specs.Roll.{count_held};
+ghost use Rattle.layer.specs.Covers.{Covers};
 ghost use Rattle.quota.specs.Means.{quota_rule};
 
 use layer::{Layer, Request, Rule};
@@ -18,11 +19,7 @@ impl Quota {
     /// The layer with this rule over an office. It says by the definition of this rule what the layer stands for, which
     /// `Layer::new` can say of no rule in particular.
     pub fn over<O: Office>(below: O, limit: u16) -> Layer<O, Quota>
-        ensures stands { ⟦<Layer<O, Quota> as Office>⟧.meaning result ≡ layered (quota_rule limit) (O.meaning below) }
-        ensures set_up { SetUp (O.meaning below) → SetUp (⟦<Layer<O, Quota> as Office>⟧.meaning result) }
-        ensures rows { ⟦<Layer<O, Quota> as Office>⟧.rows result ≡ O.rows below }
-        ensures lent { ⟦<Layer<O, Quota> as Office>⟧.loan result ≡ O.loan below }
-        ensures layers { ⟦<Layer<O, Quota> as Office>⟧.layers result ≡ quota_rule limit ∷ O.layers below }
+        ensures covers { Covers ⟦<Layer<O, Quota> as Office>⟧ O.Office (quota_rule limit) result below }
     {
         Layer::new(below, Quota { limit })
     }

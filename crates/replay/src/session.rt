@@ -1,5 +1,5 @@
 ghost use Rattle.std.specs.Prelude.{◌≡◌, ◌<◌, ◌≤◌, ◌+◌, ◌*◌, ◌^◌, true, false, is_ok};
-ghost use Rattle.office.specs.Lawful.{unused};
+ghost use Rattle.office.specs.Calls.{Keeps};
 ghost use Rattle.book.specs.Events.{code_and_operands};
 ghost use Rattle.calls.specs.Lists.{all_closed};
 ghost use Rattle.replay.specs.Events.{asks};
@@ -46,7 +46,7 @@ impl Reading {
         ensures steps { Steps O.Kind.kind (next book.now self.old.done) (O.meaning office.old) self.old result self.new (O.meaning office.new) }
         ensures same { is_ok result ≡ false → office.new ≡ office.old }
         ensures idle { quiet O.Kind.kind (O.meaning office.old) (next book.now self.old.done) ≡ true → office.new ≡ office.old }
-        ensures keeps { Keeps O.rows O.loan O.layers office.old office.new }
+        ensures keeps { Keeps O.Office office.old office.new }
         ensures always { LendingConserved O.Kind.kind }
     {
         lending_is_conserved::<O::Kind>();
@@ -89,7 +89,7 @@ fn make_event<O: Office>(office: &mut O, event: Event, tallies: Tallies) -> Resu
     ensures few { all_closed (tallies_kept tallies result) ≤ all_closed tallies + most_closed }
     ensures same { is_ok result ≡ false → office.new ≡ office.old }
     ensures idle { quiet O.Kind.kind (O.meaning office.old) (asks (code_and_operands event.entry.code event.entry.bytes.now)) ≡ true → office.new ≡ office.old }
-    ensures keeps { Keeps O.rows O.loan O.layers office.old office.new }
+    ensures keeps { Keeps O.Office office.old office.new }
 {
     let (code, operands) = event.asked()?;
     let call = call_of(code, operands);

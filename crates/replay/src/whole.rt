@@ -1,7 +1,7 @@
 ghost use Rattle.std.specs.Prelude.{◌≡◌, ◌≤◌, ◌+◌, None, IsOk, IfOk, OnErr, drop, take, vec_len, vec_capacity};
 ghost use Rattle.lending.specs.Layers.{Follow};
 ghost use Rattle.lending.specs.Promise.{LendingConserved};
-ghost use Rattle.office.specs.Lawful.{unused};
+ghost use Rattle.office.specs.Calls.{Keeps};
 ghost use Rattle.book.specs.Books.{opening, event_count};
 ghost use Rattle.calls.specs.Lists.{SomeOffice};
 ghost use Rattle.replay.specs.Faults.{refused_event_in};
@@ -35,7 +35,7 @@ pub fn replay<O: Office>(
     ensures room { vec_len faults.old + event_count book.now ≤ vec_capacity faults.old → IsOk result }
     ensures needed { OnErr result (opening_refused (opening book.now) ≡ None) }
     ensures idle { AllQuiet O.Kind.kind (O.meaning office.old) book.now (event_count book.now) → office.new ≡ office.old }
-    ensures keeps { Keeps O.rows O.loan O.layers office.old office.new }
+    ensures keeps { Keeps O.Office office.old office.new }
     ensures always { LendingConserved O.Kind.kind }
 {
     lending_is_conserved::<O::Kind>();
@@ -57,7 +57,7 @@ fn read_book<O: Office>(
     ensures room { vec_len faults.old + event_count book.now ≤ vec_capacity faults.old → IsOk result }
     ensures needed { OnErr result (opening_refused (opening book.now) ≡ None) }
     ensures idle { AllQuiet O.Kind.kind (O.meaning office.old) book.now (event_count book.now) → office.new ≡ office.old }
-    ensures keeps { Keeps O.rows O.loan O.layers office.old office.new }
+    ensures keeps { Keeps O.Office office.old office.new }
 {
     let events = match count_events(book) {
         Ok(events) => events,
@@ -97,7 +97,7 @@ fn read_events<O: Office>(
     ensures kept { take (vec_len faults.old) faults.new.items ≡ faults.old.items }
     ensures done { result.done ≡ events }
     ensures idle { AllQuiet O.Kind.kind (O.meaning office.old) book.now events → office.new ≡ office.old }
-    ensures keeps { Keeps O.rows O.loan O.layers office.old office.new }
+    ensures keeps { Keeps O.Office office.old office.new }
 {
     lending_is_conserved::<O::Kind>();
     let mut session = Reading::new();

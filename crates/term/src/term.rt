@@ -1,6 +1,7 @@
 ghost use Rattle.std.specs.Prelude.{◌≡◌, ◌∷◌};
 ghost use Rattle.lending.specs.Layers.{layered};
 ghost use Rattle.lending.specs.Office.{SetUp};
+ghost use Rattle.layer.specs.Covers.{Covers};
 ghost use Rattle.term.specs.Means.{term_rule};
 
 use layer::{Layer, Request, Rule};
@@ -17,11 +18,7 @@ impl Term {
     /// The layer with this rule over an office. It says by the definition of this rule what the layer stands for, which
     /// `Layer::new` can say of no rule in particular.
     pub fn over<O: Office>(below: O, days: u16) -> Layer<O, Term>
-        ensures stands { ⟦<Layer<O, Term> as Office>⟧.meaning result ≡ layered (term_rule days) (O.meaning below) }
-        ensures set_up { SetUp (O.meaning below) → SetUp (⟦<Layer<O, Term> as Office>⟧.meaning result) }
-        ensures rows { ⟦<Layer<O, Term> as Office>⟧.rows result ≡ O.rows below }
-        ensures lent { ⟦<Layer<O, Term> as Office>⟧.loan result ≡ O.loan below }
-        ensures layers { ⟦<Layer<O, Term> as Office>⟧.layers result ≡ term_rule days ∷ O.layers below }
+        ensures covers { Covers ⟦<Layer<O, Term> as Office>⟧ O.Office (term_rule days) result below }
     {
         Layer::new(below, Term { days })
     }

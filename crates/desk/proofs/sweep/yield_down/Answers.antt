@@ -3,6 +3,7 @@ use Rattle.std.proofs.lemmas.List.{reverse-append}
 use Rattle.lending.specs.Above.{yields}
 use Rattle.lending.specs.Answers.{done_or_refused}
 use Rattle.lending.proofs.Going.{objecting, yields_on, no_yields}
+use Rattle.office.proofs.Keeping.{none_keep, both_keep}
 use Rattle.desk.proofs.sweep.yield_down.Goals as goal
 
 none_left : (xs : List ℕ) → length xs ≡ 0 → xs ≡ []
@@ -14,7 +15,7 @@ loop-number-init g c =
     let K = g.O.Kind.Share.kind in
     let s = g.O.Office.meaning c.args.office.now in
     let e : c.into_iter-number-iterator.result.iter.rest.now ≡ c.args.numbers.now = ap (λ i. i.iter.rest.now) c.into_iter-number-iterator.ensures.into_iter_gives ∙ ap (λ i. i.rest.now) c.rev-number-items.ensures.source ∙ c.iter.ensures.rest in
-    (λ u h. (u, ap (λ (ns : List ℕ). yields K s (reverse ns)) e ∙ h, refl), refl, refl, refl)
+    (λ u h. (u, ap (λ (ns : List ℕ). yields K s (reverse ns)) e ∙ h, refl), none_keep g.O.Office c.args.office.now)
 
 pub loop-number-preserved : goal.loop-number-preserved
 loop-number-preserved g c =
@@ -27,9 +28,7 @@ loop-number-preserved g c =
       λ u h.
           let v = c.loop-number.invariant.0 u h in
           (objecting K t.objections v.0, yields_on K n (reverse rest) s t v.0 (done_or_refused c.yield_lease.result) (ap (yields K s) (sym r) ∙ v.1) c.yield_lease.ensures.does, v.2),
-      c.yield_lease.ensures.unused ∙ c.loop-number.invariant.1,
-      c.yield_lease.ensures.layers ∙ c.loop-number.invariant.2,
-      c.yield_lease.ensures.lent ∙ c.loop-number.invariant.3,
+      both_keep g.O.Office _ _ _ c.loop-number.invariant.1 c.yield_lease.ensures.keeps,
     )
 
 pub returns-clause-leaves : goal.returns-clause-leaves
@@ -40,11 +39,5 @@ returns-clause-leaves g c u h =
     let e : reverse c.loop-number.number-iterator.iter.rest.now ≡ [] = ap reverse (none_left c.loop-number.number-iterator.iter.rest.now c.in-None.ensures.steps.0) in
     no_yields K s v.0 (ap (yields K s) (sym e) ∙ v.1) ∙ v.2
 
-pub returns-clause-unused : goal.returns-clause-unused
-returns-clause-unused g c = c.loop-number.invariant.1
-
-pub returns-clause-layers : goal.returns-clause-layers
-returns-clause-layers g c = c.loop-number.invariant.2
-
-pub returns-clause-lent : goal.returns-clause-lent
-returns-clause-lent g c = c.loop-number.invariant.3
+pub returns-clause-keeps : goal.returns-clause-keeps
+returns-clause-keeps g c = c.loop-number.invariant.1

@@ -3,13 +3,11 @@ use Rattle.lending.specs.Above.{yields}
 use Rattle.lending.specs.Office.{State}
 use Rattle.lending.specs.Outcome.Answer.{done}
 use Rattle.lending.specs.Outcome.Outcome.{grants}
-use Rattle.office.specs.Lawful.{unused}
+use Rattle.office.specs.Calls.{Keeps}
 use Rattle.desk.proofs.sweep.yield_down.Given as goal
 
--- if all are granted, those left are, and lead to the same; and unused rows and the layers stay
+-- if all are granted, those left are, and lead to the same
 abbrev pub invariant-loop-number : goal.invariant-loop-number
 invariant-loop-number g l = let K = g.O.Kind.Share.kind in
     ((u : State g.row.O-Kind.Denot) → yields K (g.O.Office.meaning l.initial.office) (reverse l.numbers) ≡ grants done u → (v : State g.row.O-Kind.Denot) × (yields K (g.O.Office.meaning l.office) (reverse l.number-iterator.iter.rest.now) ≡ grants done v) × (v.core ≡ u.core))
-    × (unused (g.O.Office.rows l.office) ≡ unused (g.O.Office.rows l.initial.office))
-    × (g.O.Office.layers l.office ≡ g.O.Office.layers l.initial.office)
-    × (g.O.Office.lent l.office ≡ g.O.Office.lent l.initial.office)
+    × Keeps g.O.Office l.initial.office l.office
