@@ -1,8 +1,8 @@
-ghost use Rattle.std.specs.Prelude.{◌≡◌, true, false, is_ok};
-ghost use Rattle.lending.specs.Perform.{perform, Does};
+ghost use Rattle.std.specs.Prelude.{◌≡◌, true, is_ok};
+ghost use Rattle.lending.specs.Perform.{perform};
 ghost use Rattle.lending.specs.Choice.{CallsLeaveNoChoice};
 ghost use Rattle.lending.specs.Idle.{idle};
-ghost use Rattle.lending.specs.Promise.{LendingConserved, CallConserves};
+ghost use Rattle.lending.specs.Promise.{LendingConserved};
 ghost use Rattle.lending.specs.Answers.{number_or_refused};
 ghost use Rattle.office.specs.Calls.{Performs, Conserves};
 ghost use Rattle.calls.specs.Values.{call_meant, answer_meant};

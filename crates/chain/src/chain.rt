@@ -1,6 +1,4 @@
-ghost use Rattle.std.specs.Prelude.{◌≡◌, ◌∷◌};
-ghost use Rattle.lending.specs.Layers.{layered};
-ghost use Rattle.lending.specs.Office.{SetUp};
+ghost use Rattle.std.specs.Prelude.{◌≡◌};
 ghost use Rattle.lending.specs.Roll.{find, height};
 ghost use Rattle.layer.specs.Covers.{Covers};
 ghost use Rattle.chain.specs.Means.{lender_of_lease, chain_rule};

@@ -1,8 +1,6 @@
 // The calls that change an office.
-ghost use Rattle.std.specs.Prelude.{◌≡◌, false, is_ok};
 ghost use Rattle.lending.specs.Outcome.Call.{open_resource, delegate, yield, merge, assign, new_day};
-ghost use Rattle.lending.specs.Perform.{Does};
-ghost use Rattle.lending.specs.Promise.{LendingConserved, CallConserves};
+ghost use Rattle.lending.specs.Promise.{LendingConserved};
 ghost use Rattle.lending.specs.Answers.{done_or_refused, number_or_refused};
 ghost use Rattle.office.specs.Calls.{Performs, Conserves};
 
@@ -11,8 +9,10 @@ use office::Office;
 
 /// Opens a resource: the holder gets its first lease, with the whole. Answers its number.
 pub fn open<O: Office>(office: &mut O, resource: u16, holder: u16) -> Result<u16, Refusal>
-    ensures performs { Performs O.Kind.kind O.Office (open_resource resource holder) (number_or_refused result) office.old office.new }
-    ensures conserved { Conserves O.Kind.kind O.Office (open_resource resource holder) (number_or_refused result) office.old office.new }
+    ensures performs { Performs O.Kind.kind O.Office (open_resource resource holder) (number_or_refused result)
+        office.old office.new }
+    ensures conserved { Conserves O.Kind.kind O.Office (open_resource resource holder) (number_or_refused result)
+        office.old office.new }
     ensures always { LendingConserved O.Kind.kind }
 {
     lending_is_conserved::<O::Kind>();
@@ -26,8 +26,10 @@ pub fn delegate<O: Office>(
     holder: u16,
     due: u16,
 ) -> Result<u16, Refusal>
-    ensures performs { Performs O.Kind.kind O.Office (delegate lender holder due) (number_or_refused result) office.old office.new }
-    ensures conserved { Conserves O.Kind.kind O.Office (delegate lender holder due) (number_or_refused result) office.old office.new }
+    ensures performs { Performs O.Kind.kind O.Office (delegate lender holder due) (number_or_refused result)
+        office.old office.new }
+    ensures conserved { Conserves O.Kind.kind O.Office (delegate lender holder due) (number_or_refused result)
+        office.old office.new }
     ensures always { LendingConserved O.Kind.kind }
 {
     lending_is_conserved::<O::Kind>();
@@ -56,8 +58,10 @@ pub fn merge<O: Office>(office: &mut O, a: u16, b: u16) -> Result<(), Refusal>
 
 /// Changes the holder of a lease.
 pub fn assign<O: Office>(office: &mut O, lease: u16, holder: u16) -> Result<(), Refusal>
-    ensures performs { Performs O.Kind.kind O.Office (assign lease holder) (done_or_refused result) office.old office.new }
-    ensures conserved { Conserves O.Kind.kind O.Office (assign lease holder) (done_or_refused result) office.old office.new }
+    ensures performs { Performs O.Kind.kind O.Office (assign lease holder) (done_or_refused result)
+        office.old office.new }
+    ensures conserved { Conserves O.Kind.kind O.Office (assign lease holder) (done_or_refused result)
+        office.old office.new }
     ensures always { LendingConserved O.Kind.kind }
 {
     lending_is_conserved::<O::Kind>();

@@ -5,7 +5,7 @@ ghost use Rattle.lending.specs.Effects.{DayComes};
 ghost use Rattle.lending.specs.Outcome.Answer.{number};
 ghost use Rattle.lending.specs.Outcome.Call.{day as next_day};
 ghost use Rattle.lending.specs.Perform.{Does};
-ghost use Rattle.lending.specs.Promise.{LendingConserved, CallConserves};
+ghost use Rattle.lending.specs.Promise.{LendingConserved};
 ghost use Rattle.lending.specs.Answers.{number_or_refused};
 ghost use Rattle.office.specs.Calls.{Performs, Keeps, Conserves};
 

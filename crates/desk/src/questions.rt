@@ -2,9 +2,8 @@
 ghost use Rattle.std.specs.Prelude.{◌≡◌};
 ghost use Rattle.lending.specs.Outcome.Call.{ask_count, ask_issued, ask_today, ask_lease_at, ask_lease};
 ghost use Rattle.lending.specs.Outcome.Answer.{number};
-ghost use Rattle.lending.specs.Perform.{Does};
 ghost use Rattle.office.specs.Calls.{Conserves, Tells};
-ghost use Rattle.lending.specs.Promise.{LendingConserved, CallConserves};
+ghost use Rattle.lending.specs.Promise.{LendingConserved};
 ghost use Rattle.lending.specs.Answers.{lease_or_refused};
 ghost use Rattle.office.specs.ToCome.{leases_to_come};
 
@@ -44,7 +43,8 @@ pub fn today<O: Office>(office: &O) -> u16
 /// The live lease at a position of the roll, from 0.
 pub fn lease_at<O: Office>(office: &O, position: usize) -> Result<Lease<O::Kind>, Refusal>
     ensures does { Tells O.Kind.kind O.Office (ask_lease_at position) (lease_or_refused result) office.now }
-    ensures conserved { Conserves O.Kind.kind O.Office (ask_lease_at position) (lease_or_refused result) office.now office.now }
+    ensures conserved { Conserves O.Kind.kind O.Office (ask_lease_at position) (lease_or_refused result)
+        office.now office.now }
     ensures always { LendingConserved O.Kind.kind }
 {
     lending_is_conserved::<O::Kind>();

@@ -1,11 +1,11 @@
-ghost use Rattle.std.specs.Prelude.{◌≡◌, false, true, is_ok, map, nat_eq};
+ghost use Rattle.std.specs.Prelude.{◌≡◌, true, map, nat_eq};
 ghost use Rattle.std.specs.List.{list_any};
 ghost use Rattle.std.specs.List.Sorted.{IsNonDecreasingBy};
 ghost use Rattle.lending.specs.Effects.{TakesBack};
 ghost use Rattle.lending.specs.Outcome.Answer.{number};
 ghost use Rattle.lending.specs.Outcome.Call.{recall};
 ghost use Rattle.lending.specs.Perform.{Does};
-ghost use Rattle.lending.specs.Promise.{LendingConserved, CallConserves};
+ghost use Rattle.lending.specs.Promise.{LendingConserved};
 ghost use Rattle.lending.specs.Roll.{live, family};
 ghost use Rattle.lending.specs.Answers.{number_or_refused};
 ghost use Rattle.office.specs.Calls.{Performs, Keeps, Conserves};

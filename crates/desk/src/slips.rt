@@ -4,7 +4,7 @@ ghost use Rattle.lending.specs.Outcome.Answer.{number};
 ghost use Rattle.lending.specs.Outcome.Call.{hand_in};
 ghost use Rattle.lending.specs.Perform.{perform, Does};
 ghost use Rattle.lending.specs.Idle.{idle};
-ghost use Rattle.lending.specs.Promise.{LendingConserved, CallConserves};
+ghost use Rattle.lending.specs.Promise.{LendingConserved};
 ghost use Rattle.office.specs.Calls.{Performs, Keeps, Conserves};
 ghost use Rattle.desk.specs.Slips.{lease_of, was_handed_in};
 
@@ -46,8 +46,10 @@ impl Slip {
     pub fn hand_in<O: Office>(mut self, office: &mut O) -> usize
         ensures performs { Performs O.Kind.kind O.Office (hand_in (lease_of self)) (number result) office.old office.new }
         ensures takes_back { TakesBack O.Kind.kind (O.meaning office.old) (lease_of self) (O.meaning office.new) }
-        ensures idle { idle (perform O.Kind.kind (O.meaning office.old) (hand_in (lease_of self))) ≡ true → office.new ≡ office.old }
-        ensures conserved { Conserves O.Kind.kind O.Office (hand_in (lease_of self)) (number result) office.old office.new }
+        ensures idle { idle (perform O.Kind.kind (O.meaning office.old) (hand_in (lease_of self))) ≡ true
+            → office.new ≡ office.old }
+        ensures conserved { Conserves O.Kind.kind O.Office (hand_in (lease_of self)) (number result)
+            office.old office.new }
         ensures always { LendingConserved O.Kind.kind }
     {
         lending_is_conserved::<O::Kind>();

@@ -3,9 +3,8 @@ ghost use Rattle.lending.specs.Above.{standing_of};
 ghost use Rattle.lending.specs.Effects.{StandingJoins, MayWrite};
 ghost use Rattle.lending.specs.Outcome.Answer.{share};
 ghost use Rattle.lending.specs.Outcome.Call.{standing};
-ghost use Rattle.lending.specs.Perform.{Does};
 ghost use Rattle.office.specs.Calls.{Conserves, Tells};
-ghost use Rattle.lending.specs.Promise.{LendingConserved, CallConserves};
+ghost use Rattle.lending.specs.Promise.{LendingConserved};
 
 use lending::lending_is_conserved;
 use office::{Office, leases};

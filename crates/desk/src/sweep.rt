@@ -15,7 +15,8 @@ pub(crate) type Numbers = ArrayVec<u16, MOST_ROWS>;
 
 // Yields these leases from the last to the first. Where the definitions grant all of those yields, this leaves what they do.
 pub(crate) fn yield_down<O: Office>(office: &mut O, numbers: &[u16])
-    ensures leaves { (u : State O.Kind) → yields O.Kind.kind (O.meaning office.old) (reverse numbers.now) ≡ grants done u → (O.meaning office.new).core ≡ u.core }
+    ensures leaves { (u : State O.Kind) → yields O.Kind.kind (O.meaning office.old) (reverse numbers.now)
+        ≡ grants done u → (O.meaning office.new).core ≡ u.core }
     ensures keeps { Keeps O.Office office.old office.new }
 {
     for number in numbers.iter().rev() {

@@ -1,5 +1,5 @@
 // Calls made through any office, and through a fickle one.
-ghost use Rattle.std.specs.Prelude.{◌≡◌, false, min, length, []};
+ghost use Rattle.std.specs.Prelude.{false, min, length, []};
 ghost use Rattle.lending.specs.Limits.{most_rows};
 ghost use Rattle.lending.specs.Office.{State, new_ledger};
 ghost use Rattle.lending.specs.Promise.{LendingConserved};

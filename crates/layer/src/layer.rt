@@ -1,5 +1,4 @@
 ghost use Rattle.std.specs.Prelude.{◌≡◌, ◌∷◌, MatchResult};
-ghost use Rattle.lending.specs.Office.{SetUp};
 ghost use Rattle.lending.specs.Layers.{layered};
 ghost use Rattle.lending.specs.Answers.{reason_number};
 ghost use Rattle.layer.specs.Covers.{Covers};

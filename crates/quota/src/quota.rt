@@ -1,6 +1,4 @@
-ghost use Rattle.std.specs.Prelude.{◌≡◌, ◌∷◌};
-ghost use Rattle.lending.specs.Layers.{layered};
-ghost use Rattle.lending.specs.Office.{SetUp};
+ghost use Rattle.std.specs.Prelude.{◌≡◌};
 ghost use Rattle.lending.specs.Roll.{count_held};
 ghost use Rattle.layer.specs.Covers.{Covers};
 ghost use Rattle.quota.specs.Means.{quota_rule};

@@ -1,6 +1,3 @@
-ghost use Rattle.std.specs.Prelude.{◌≡◌, ◌∷◌};
-ghost use Rattle.lending.specs.Layers.{layered};
-ghost use Rattle.lending.specs.Office.{SetUp};
 ghost use Rattle.layer.specs.Covers.{Covers};
 ghost use Rattle.term.specs.Means.{term_rule};
 
