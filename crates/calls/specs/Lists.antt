@@ -6,6 +6,7 @@ use Rattle.lending.specs.Layers.{Layers}
 use Rattle.lending.specs.Outcome as office
 use Rattle.lending.specs.History.{Moment, Leads, EachCameTo, tally, none, one_if_done, its_number, closing, yielded, merged, recalled, lapsed}
 use Rattle.lending.specs.Promise.{Conserved}
+use Rattle.office.specs.declared.office.Office.{Ghosts}
 use Rattle.calls.specs.declared.call.Call.{Call}
 use Rattle.calls.specs.declared.list.Tallies.{Tallies}
 use Rattle.calls.specs.Values.{call_meant}
@@ -50,10 +51,10 @@ module _ {S : Type 0} where
     pub conserved : (start : State S) → SetUp start → (earlier : List (Moment S)) → Leads K start earlier s → Conserved K (history ++ earlier) t
 
 -- some office with these layers stands for the state
-abbrev pub SomeOffice : {O S : Type 0} → (O → State S) → (O → Layers S) → Layers S → State S → Type 0
-SomeOffice {O} means layers ls s = (o : O) × (means o ≡ s) × (layers o ≡ ls)
+abbrev pub SomeOffice : {O S : Type 0} → Ghosts O S → Layers S → State S → Type 0
+SomeOffice {O} it ls s = (o : O) × (it.meaning o ≡ s) × (it.layers o ≡ ls)
 
 -- The calls, made in their order, led one office to the other and closed what the tallies say, each in a state that an office
 -- with these layers can have.
-abbrev pub ListMade : {O S : Type 0} → Kind S → (O → State S) → (O → Layers S) → O → List Call → Tallies → O → Type 0
-ListMade K means layers before calls tallies after = CallsMade K (SomeOffice means layers (layers before)) (means before) calls tallies (means after)
+abbrev pub ListMade : {O S : Type 0} → Kind S → Ghosts O S → O → List Call → Tallies → O → Type 0
+ListMade K it before calls tallies after = CallsMade K (SomeOffice it (it.layers before)) (it.meaning before) calls tallies (it.meaning after)

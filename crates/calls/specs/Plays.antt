@@ -2,9 +2,11 @@
 use Rattle.std.specs.Prelude.{◌≡◌, List, map, reverse}
 use Rattle.shares.specs.Kind.{Kind}
 use Rattle.lending.specs.Office.{State}
-use Rattle.lending.specs.Layers.{Layers, Follow}
+use Rattle.lending.specs.Layers.{Layers}
 use Rattle.lending.specs.Play.{play}
 use Rattle.lending.specs.History.{Moment, yielded, merged, recalled, lapsed}
+use Rattle.office.specs.declared.office.Office.{Ghosts}
+use Rattle.office.specs.Calls.{EachFollows}
 use Rattle.calls.specs.declared.call.Call.{Call}
 use Rattle.calls.specs.declared.list.Tallies.{Tallies}
 use Rattle.calls.specs.Values.{call_meant}
@@ -24,5 +26,5 @@ module _ {S : Type 0} (K : Kind S) (layers : Layers S) (s : State S) (calls : Li
     pub lapses : tallies.lapsed ≡ lapsed play_in_turn.0
 
 -- Where the objections of every such office follow from its layers, the calls led one to the other as they are played.
-abbrev pub ListPlayed : {O S : Type 0} → Kind S → (O → State S) → (O → Layers S) → O → List Call → Tallies → O → Type 0
-ListPlayed {O} K means layers before calls tallies after = ((o : O) → Follow (layers o) (means o)) → CallsPlayed K (layers before) (means before) calls tallies (means after)
+abbrev pub ListPlayed : {O S : Type 0} → Kind S → Ghosts O S → O → List Call → Tallies → O → Type 0
+ListPlayed {O} K it before calls tallies after = EachFollows it → CallsPlayed K (it.layers before) (it.meaning before) calls tallies (it.meaning after)

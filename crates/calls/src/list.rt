@@ -56,8 +56,8 @@ impl Tallies {
 
 /// Makes some calls, one after another. Answers how many leases they closed.
 pub fn make_all<O: Office>(office: &mut O, calls: &[Call]) -> Tallies
-    ensures made { ListMade O.Kind.kind O.meaning O.layers office.old calls.now result office.new }
-    ensures played { ListPlayed O.Kind.kind O.meaning O.layers office.old calls.now result office.new }
+    ensures made { ListMade O.Kind.kind O.Office office.old calls.now result office.new }
+    ensures played { ListPlayed O.Kind.kind O.Office office.old calls.now result office.new }
     ensures one_result { ListsLeaveNoChoice O.Kind.kind }
     ensures idle { AllIdle O.Kind.kind (O.meaning office.old) calls.now → office.new ≡ office.old }
     ensures keeps { Keeps O.Office office.old office.new }
@@ -70,8 +70,8 @@ pub fn make_all<O: Office>(office: &mut O, calls: &[Call]) -> Tallies
 // The calls made from the first on. The loop is by itself so that a wrong call of it is refused where it stands, and not in
 // the proof of the loop.
 fn make_each<O: Office>(office: &mut O, calls: &[Call]) -> Tallies
-    ensures made { ListMade O.Kind.kind O.meaning O.layers office.old calls.now result office.new }
-    ensures played { ListPlayed O.Kind.kind O.meaning O.layers office.old calls.now result office.new }
+    ensures made { ListMade O.Kind.kind O.Office office.old calls.now result office.new }
+    ensures played { ListPlayed O.Kind.kind O.Office office.old calls.now result office.new }
     ensures idle { AllIdle O.Kind.kind (O.meaning office.old) calls.now → office.new ≡ office.old }
     ensures keeps { Keeps O.Office office.old office.new }
     ensures always { LendingConserved O.Kind.kind }

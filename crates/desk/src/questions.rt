@@ -12,7 +12,7 @@ use office::{LiveLeases, Office};
 
 /// How many leases are live.
 pub fn count<O: Office>(office: &O) -> usize
-    ensures does { Tells O.Kind.kind O.Office ask_count (number result) office.now }
+    ensures tells { Tells O.Kind.kind O.Office ask_count (number result) office.now }
     ensures conserved { Conserves O.Kind.kind O.Office ask_count (number result) office.now office.now }
     ensures always { LendingConserved O.Kind.kind }
 {
@@ -22,7 +22,7 @@ pub fn count<O: Office>(office: &O) -> usize
 
 /// How many numbers were issued.
 pub fn issued<O: Office>(office: &O) -> u16
-    ensures does { Tells O.Kind.kind O.Office ask_issued (number result) office.now }
+    ensures tells { Tells O.Kind.kind O.Office ask_issued (number result) office.now }
     ensures conserved { Conserves O.Kind.kind O.Office ask_issued (number result) office.now office.now }
     ensures always { LendingConserved O.Kind.kind }
 {
@@ -32,7 +32,7 @@ pub fn issued<O: Office>(office: &O) -> u16
 
 /// Today.
 pub fn today<O: Office>(office: &O) -> u16
-    ensures does { Tells O.Kind.kind O.Office ask_today (number result) office.now }
+    ensures tells { Tells O.Kind.kind O.Office ask_today (number result) office.now }
     ensures conserved { Conserves O.Kind.kind O.Office ask_today (number result) office.now office.now }
     ensures always { LendingConserved O.Kind.kind }
 {
@@ -42,7 +42,7 @@ pub fn today<O: Office>(office: &O) -> u16
 
 /// The live lease at a position of the roll, from 0.
 pub fn lease_at<O: Office>(office: &O, position: usize) -> Result<Lease<O::Kind>, Refusal>
-    ensures does { Tells O.Kind.kind O.Office (ask_lease_at position) (lease_or_refused result) office.now }
+    ensures tells { Tells O.Kind.kind O.Office (ask_lease_at position) (lease_or_refused result) office.now }
     ensures conserved { Conserves O.Kind.kind O.Office (ask_lease_at position) (lease_or_refused result)
         office.now office.now }
     ensures always { LendingConserved O.Kind.kind }
@@ -53,7 +53,7 @@ pub fn lease_at<O: Office>(office: &O, position: usize) -> Result<Lease<O::Kind>
 
 /// The live lease with a number.
 pub fn lease<O: Office>(office: &O, lease: u16) -> Result<Lease<O::Kind>, Refusal>
-    ensures does { Tells O.Kind.kind O.Office (ask_lease lease) (lease_or_refused result) office.now }
+    ensures tells { Tells O.Kind.kind O.Office (ask_lease lease) (lease_or_refused result) office.now }
     ensures conserved { Conserves O.Kind.kind O.Office (ask_lease lease) (lease_or_refused result) office.now office.now }
     ensures always { LendingConserved O.Kind.kind }
 {

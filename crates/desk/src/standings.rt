@@ -12,7 +12,7 @@ use shares::Share;
 
 /// What a holder's shares of a resource join to; the empty share if there are none.
 pub fn standing<O: Office>(office: &O, resource: u16, holder: u16) -> O::Kind
-    ensures does { Tells O.Kind.kind O.Office (standing resource holder) (share result) office.now }
+    ensures tells { Tells O.Kind.kind O.Office (standing resource holder) (share result) office.now }
     ensures joins { StandingJoins O.Kind.kind (O.meaning office.now) resource holder result }
     ensures conserved { Conserves O.Kind.kind O.Office (standing resource holder) (share result) office.now office.now }
     ensures always { LendingConserved O.Kind.kind }

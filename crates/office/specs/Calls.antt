@@ -1,5 +1,6 @@
 -- Calls to an office, in its own words.
 use Rattle.shares.specs.Kind.{Kind}
+use Rattle.lending.specs.Layers.{Follow}
 use Rattle.lending.specs.Outcome.{Call, Answer}
 use Rattle.lending.specs.Perform.{Does}
 use Rattle.lending.specs.Promise.{CallConserves}
@@ -22,3 +23,7 @@ module _ {O S : Type 0} where
   -- The office o answers a to the question c.
   abbrev pub Tells : Kind S → Ghosts O S → Call → Answer S → O → Type 0
   Tells K office c a o = Does K (office.meaning o) c a (office.meaning o)
+
+-- The objections of every such office follow from its layers.
+abbrev pub EachFollows : {O S : Type 0} → Ghosts O S → Type 0
+EachFollows {O} office = (o : O) → Follow (office.layers o) (office.meaning o)

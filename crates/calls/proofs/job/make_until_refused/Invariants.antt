@@ -1,5 +1,5 @@
 use Rattle.std.proofs.Common.{◌≡◌, take, drop}
-use Rattle.office.specs.Lawful.{unused}
+use Rattle.office.specs.Calls.{Keeps}
 use Rattle.calls.specs.Quiet.{AllIdle}
 use Rattle.calls.proofs.Jobs.{SoFar}
 use Rattle.calls.proofs.job.make_until_refused.Given as goal
@@ -8,9 +8,7 @@ use Rattle.calls.proofs.job.make_until_refused.Given as goal
 abbrev pub invariant-loop-call : goal.invariant-loop-call
 invariant-loop-call g l = record {
   many : l.made ≡ l.call-index;
-  so_far : SoFar g.O.Kind.Share.kind g.O.Office.meaning g.O.Office.layers l.fn.office l.calls l.call-index (take l.call-index l.calls) (drop l.call-index l.calls) l.tallies l.office;
+  so_far : SoFar g.O.Kind.Share.kind g.O.Office l.fn.office l.calls l.call-index (take l.call-index l.calls) (drop l.call-index l.calls) l.tallies l.office;
   idle : AllIdle g.O.Kind.Share.kind (g.O.Office.meaning l.fn.office) l.calls → l.office ≡ l.fn.office;
-  unused : unused (g.O.Office.rows l.office) ≡ unused (g.O.Office.rows l.fn.office);
-  layers : g.O.Office.layers l.office ≡ g.O.Office.layers l.fn.office;
-  lent : g.O.Office.lent l.office ≡ g.O.Office.lent l.fn.office;
+  keeps : Keeps g.O.Office l.fn.office l.office;
 }
