@@ -5,6 +5,7 @@ ghost use Rattle.lending.specs.Outcome.Call.{open_resource, delegate, yield, mer
 ghost use Rattle.lending.specs.Perform.{Does};
 ghost use Rattle.lending.specs.Answers.{reason_number, done_or_refused, number_or_refused};
 ghost use Rattle.office.specs.Calls.{Keeps};
+ghost use Rattle.fickle.specs.Calls.{FicklePerforms, fickle_meaning};
 ghost use Rattle.fickle.specs.Objects.{fickle_objects, flip, fickle_state};
 
 use lending::{Lease, Reason, Refusal};
@@ -24,7 +25,7 @@ impl<O: Office> Fickle<O> {
         ensures stands { ⟦<Fickle<O> as Office>⟧.meaning result ≡ fickle_state false (O.meaning below) }
         ensures set_up { SetUp (O.meaning below) → SetUp (⟦<Fickle<O> as Office>⟧.meaning result) }
         ensures rows { ⟦<Fickle<O> as Office>⟧.rows result ≡ O.rows below }
-        ensures lent { ⟦<Fickle<O> as Office>⟧.loan result ≡ O.loan below }
+        ensures loan { ⟦<Fickle<O> as Office>⟧.loan result ≡ O.loan below }
         ensures layers { ⟦<Fickle<O> as Office>⟧.layers result ≡ O.layers below }
     {
         Fickle {
@@ -60,7 +61,7 @@ impl<O: Office> Office for Fickle<O> {
 
     type Kind = O::Kind;
 
-    ghost meaning = { λ fickle. fickle_state fickle.closed (O.meaning fickle.below) };
+    ghost meaning = { fickle_meaning O.Office };
 
     ghost rows = { λ fickle. O.rows fickle.below };
 
@@ -92,10 +93,7 @@ impl<O: Office> Office for Fickle<O> {
 
     #[tactic(auto, using(crate::proofs::Turning::opened))]
     fn open(&mut self, resource: u16, holder: u16) -> Result<u16, Refusal>
-        ensures does { Does O.Kind.kind (fickle_state self.old.closed (O.meaning self.old.below)) (open_resource resource holder) (number_or_refused result) (fickle_state self.new.closed (O.meaning self.new.below)) }
-        ensures turns { self.new.closed ≡ flip (is_ok result) self.old.closed }
-        ensures same { is_ok result ≡ false → self.new ≡ self.old }
-        ensures keeps { Keeps O.Office self.old.below self.new.below }
+        ensures { FicklePerforms O.Office O.Kind.kind (open_resource resource holder) (number_or_refused result) self.old self.new }
     {
         self.allow(resource, holder)?;
         let answer = self.below.open(resource, holder).map_err(Refusal::raised);
@@ -105,10 +103,7 @@ impl<O: Office> Office for Fickle<O> {
 
     #[tactic(auto, using(crate::proofs::Turning::delegated))]
     fn delegate(&mut self, lender: u16, holder: u16, due: u16) -> Result<u16, Refusal>
-        ensures does { Does O.Kind.kind (fickle_state self.old.closed (O.meaning self.old.below)) (delegate lender holder due) (number_or_refused result) (fickle_state self.new.closed (O.meaning self.new.below)) }
-        ensures turns { self.new.closed ≡ flip (is_ok result) self.old.closed }
-        ensures same { is_ok result ≡ false → self.new ≡ self.old }
-        ensures keeps { Keeps O.Office self.old.below self.new.below }
+        ensures { FicklePerforms O.Office O.Kind.kind (delegate lender holder due) (number_or_refused result) self.old self.new }
     {
         let answer = self
             .below
@@ -120,10 +115,7 @@ impl<O: Office> Office for Fickle<O> {
 
     #[tactic(auto, using(crate::proofs::Turning::yielded))]
     fn yield_lease(&mut self, lease: u16) -> Result<(), Refusal>
-        ensures does { Does O.Kind.kind (fickle_state self.old.closed (O.meaning self.old.below)) (yield lease) (done_or_refused result) (fickle_state self.new.closed (O.meaning self.new.below)) }
-        ensures turns { self.new.closed ≡ flip (is_ok result) self.old.closed }
-        ensures same { is_ok result ≡ false → self.new ≡ self.old }
-        ensures keeps { Keeps O.Office self.old.below self.new.below }
+        ensures { FicklePerforms O.Office O.Kind.kind (yield lease) (done_or_refused result) self.old self.new }
     {
         let answer = self.below.yield_lease(lease).map_err(Refusal::raised);
         self.turn(answer.is_ok());
@@ -132,10 +124,7 @@ impl<O: Office> Office for Fickle<O> {
 
     #[tactic(auto, using(crate::proofs::Turning::merged))]
     fn merge(&mut self, a: u16, b: u16) -> Result<(), Refusal>
-        ensures does { Does O.Kind.kind (fickle_state self.old.closed (O.meaning self.old.below)) (merge a b) (done_or_refused result) (fickle_state self.new.closed (O.meaning self.new.below)) }
-        ensures turns { self.new.closed ≡ flip (is_ok result) self.old.closed }
-        ensures same { is_ok result ≡ false → self.new ≡ self.old }
-        ensures keeps { Keeps O.Office self.old.below self.new.below }
+        ensures { FicklePerforms O.Office O.Kind.kind (merge a b) (done_or_refused result) self.old self.new }
     {
         let answer = self.below.merge(a, b).map_err(Refusal::raised);
         self.turn(answer.is_ok());
@@ -144,10 +133,7 @@ impl<O: Office> Office for Fickle<O> {
 
     #[tactic(auto, using(crate::proofs::Turning::assigned))]
     fn assign(&mut self, lease: u16, holder: u16) -> Result<(), Refusal>
-        ensures does { Does O.Kind.kind (fickle_state self.old.closed (O.meaning self.old.below)) (assign lease holder) (done_or_refused result) (fickle_state self.new.closed (O.meaning self.new.below)) }
-        ensures turns { self.new.closed ≡ flip (is_ok result) self.old.closed }
-        ensures same { is_ok result ≡ false → self.new ≡ self.old }
-        ensures keeps { Keeps O.Office self.old.below self.new.below }
+        ensures { FicklePerforms O.Office O.Kind.kind (assign lease holder) (done_or_refused result) self.old self.new }
     {
         let answer = self.below.assign(lease, holder).map_err(Refusal::raised);
         self.turn(answer.is_ok());
@@ -156,10 +142,7 @@ impl<O: Office> Office for Fickle<O> {
 
     #[tactic(auto, using(crate::proofs::Turning::day_set))]
     fn set_day(&mut self, day: u16) -> Result<(), Refusal>
-        ensures does { Does O.Kind.kind (fickle_state self.old.closed (O.meaning self.old.below)) (new_day day) (done_or_refused result) (fickle_state self.new.closed (O.meaning self.new.below)) }
-        ensures turns { self.new.closed ≡ flip (is_ok result) self.old.closed }
-        ensures same { is_ok result ≡ false → self.new ≡ self.old }
-        ensures keeps { Keeps O.Office self.old.below self.new.below }
+        ensures { FicklePerforms O.Office O.Kind.kind (new_day day) (done_or_refused result) self.old self.new }
     {
         let answer = self.below.set_day(day).map_err(Refusal::raised);
         self.turn(answer.is_ok());

@@ -33,7 +33,7 @@ pub fn work<O: Office>(
     lease: u16,
     calls: &[Call],
 ) -> Answers
-    ensures worked { Worked O.Kind.kind (SomeOffice O.meaning O.layers (O.layers office.old)) (O.meaning office.old) resource holder lease calls.now result (O.meaning office.new) }
+    ensures worked { Worked O.Kind.kind (SomeOffice O.Office (O.layers office.old)) (O.meaning office.old) resource holder lease calls.now result (O.meaning office.new) }
     ensures keeps { Keeps O.Office office.old office.new }
     ensures always { LendingConserved O.Kind.kind }
 {
@@ -56,7 +56,7 @@ pub fn work_fickle<'a, S: Share>(
     lease: u16,
     calls: &[Call],
 ) -> Answers
-    ensures worked { (t : State S) × Worked S.kind (SomeOffice ⟦<Fickle<Ledger<'a, S>> as Office>⟧.meaning ⟦<Fickle<Ledger<'a, S>> as Office>⟧.layers []) (fickle_state false (new_ledger (min most_rows (length rows.old)))) resource holder lease calls.now result t }
+    ensures worked { (t : State S) × Worked S.kind (SomeOffice ⟦<Fickle<Ledger<'a, S>> as Office>⟧ []) (fickle_state false (new_ledger (min most_rows (length rows.old)))) resource holder lease calls.now result t }
     ensures always { LendingConserved S.kind }
 {
     work_at_new(rows, resource, holder, lease, calls)
@@ -70,7 +70,7 @@ fn work_at_new<'a, S: Share>(
     lease: u16,
     calls: &[Call],
 ) -> Answers
-    ensures worked { (t : State S) × Worked S.kind (SomeOffice ⟦<Fickle<Ledger<'a, S>> as Office>⟧.meaning ⟦<Fickle<Ledger<'a, S>> as Office>⟧.layers []) (fickle_state false (new_ledger (min most_rows (length rows.old)))) resource holder lease calls.now result t }
+    ensures worked { (t : State S) × Worked S.kind (SomeOffice ⟦<Fickle<Ledger<'a, S>> as Office>⟧ []) (fickle_state false (new_ledger (min most_rows (length rows.old)))) resource holder lease calls.now result t }
     ensures always { LendingConserved S.kind }
 {
     let mut office = Fickle::over(Ledger::new(rows));
