@@ -40,7 +40,7 @@ impl<'a, S: Share> Ledger<'a, S> {
         ensures stands { means result ≡ new_ledger (min most_rows (length rows.old)) }
         ensures set_up { SetUp (means result) }
         ensures rows { rows_of result ≡ rows.old }
-        ensures lent { loan_of result ≡ rows.entry.ghost_name }
+        ensures loan { loan_of result ≡ rows.entry.ghost_name }
     {
         Ledger {
             rows,
@@ -53,7 +53,7 @@ impl<'a, S: Share> Ledger<'a, S> {
     /// Ends the ledger and gives its rows back, as they are: the roll stands in the first of them.
     pub fn into_rows(self) -> &'a mut [Lease<S>]
         ensures rows { result.now ≡ rows_of self.entry }
-        ensures lent { result.ghost_name ≡ loan_of self.entry }
+        ensures loan { result.ghost_name ≡ loan_of self.entry }
         ensures roll { take (length (means self.entry).core.roll) result.now ≡ (means self.entry).core.roll }
     {
         let Ledger { rows, .. } = self;

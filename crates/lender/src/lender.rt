@@ -47,7 +47,7 @@ fn make_in<'a, S: Share>(
     ensures played { CallsPlayed S.kind (layers quota term chain) (new_office quota term chain (length rows.old)) calls.now result.0 (play_at_new S.kind quota term chain (length rows.old) calls.now).1 }
     ensures roll { let t = (play_at_new S.kind quota term chain (length rows.old) calls.now).1 in take (length t.core.roll) result.1.now ≡ t.core.roll }
     ensures unused { unused result.1.now ≡ unused rows.old }
-    ensures lent { result.1.ghost_name ≡ rows.entry.ghost_name }
+    ensures loan { result.1.ghost_name ≡ rows.entry.ghost_name }
 {
     let (tallies, ledger) = make_over(Ledger::new(rows), quota, term, chain, calls);
     (tallies, ledger.into_rows())
@@ -58,7 +58,7 @@ fn make_over<O: Piled>(below: O, quota: u16, term: u16, chain: u16, calls: &[Cal
     ensures played { let ls = layers quota term chain in CallsPlayed O.Kind.kind (ls ++ O.layers below) (pile ls (O.meaning below)) calls.now result.0 (play_in_turn O.Kind.kind (ls ++ O.layers below) (pile ls (O.meaning below)) calls.now).1 }
     ensures roll { let ls = layers quota term chain in (O.meaning result.1).core.roll ≡ (play_in_turn O.Kind.kind (ls ++ O.layers below) (pile ls (O.meaning below)) calls.now).1.core.roll }
     ensures unused { unused (O.rows result.1) ≡ unused (O.rows below) }
-    ensures lent { O.loan result.1 ≡ O.loan below }
+    ensures loan { O.loan result.1 ≡ O.loan below }
 {
     let mut office = pile_over(below, quota, term, chain);
     let tallies = make_piled(&mut office, calls);
@@ -75,7 +75,7 @@ fn pile_over<O: Office>(
     ensures stands { ⟦<Layer<Layer<Layer<O, Chain>, Term>, Quota> as Office>⟧.meaning result ≡ pile (layers quota term chain) (O.meaning below) }
     ensures layers { ⟦<Layer<Layer<Layer<O, Chain>, Term>, Quota> as Office>⟧.layers result ≡ layers quota term chain ++ O.layers below }
     ensures rows { ⟦<Layer<Layer<Layer<O, Chain>, Term>, Quota> as Office>⟧.rows result ≡ O.rows below }
-    ensures lent { ⟦<Layer<Layer<Layer<O, Chain>, Term>, Quota> as Office>⟧.loan result ≡ O.loan below }
+    ensures loan { ⟦<Layer<Layer<Layer<O, Chain>, Term>, Quota> as Office>⟧.loan result ≡ O.loan below }
 {
     Quota::over(Term::over(Chain::over(below, chain), term), quota)
 }
@@ -84,7 +84,7 @@ fn pile_over<O: Office>(
 fn make_piled<O: Piled>(office: &mut O, calls: &[Call]) -> Tallies
     ensures played { CallsPlayed O.Kind.kind (O.layers office.old) (O.meaning office.old) calls.now result (O.meaning office.new) }
     ensures unused { unused (O.rows office.new) ≡ unused (O.rows office.old) }
-    ensures lent { O.loan office.new ≡ O.loan office.old }
+    ensures loan { O.loan office.new ≡ O.loan office.old }
 {
     make_all(office, calls)
 }

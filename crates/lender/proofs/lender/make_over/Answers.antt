@@ -9,5 +9,5 @@ returns-clause-played g c = played_there g.O.Kind.Share.kind _ _ _ _ _ c.args.ca
 pub returns-clause-roll : goal.returns-clause-roll
 returns-clause-roll g c =
     let up = λ (s : State g.row.O-Kind.Denot). s.core.roll in
-    sym (ap up c.into_below-3.ensures.stands) ∙ sym (ap up c.into_below-2.ensures.stands) ∙ sym (ap up c.into_below.ensures.stands)
+    sym (ap up c.into_below-3.ensures.covers.stands) ∙ sym (ap up c.into_below-2.ensures.covers.stands) ∙ sym (ap up c.into_below.ensures.covers.stands)
     ∙ roll_there g.O.Kind.Share.kind _ _ _ _ _ c.args.calls.now c.make_piled-tallies.result c.pile_over-office.ensures.layers c.pile_over-office.ensures.stands c.make_piled-tallies.ensures.played
