@@ -20,6 +20,8 @@ use Rattle.book.specs.declared.book.Book.{Book}
 use Rattle.book.specs.Books.{opening, event_count, event_in, book_bytes}
 use Rattle.book.specs.Events.{code_and_operands}
 use Rattle.calls.specs.declared.list.Tallies.{Tallies}
+use Rattle.office.specs.declared.office.Office.{Ghosts}
+use Rattle.office.specs.Calls.{EachFollows}
 use Rattle.calls.specs.Lists.{SomeOffice, all_closed, tallies_with}
 use Rattle.calls.proofs.Following.{follows, each_follows}
 use Rattle.replay.specs.declared.fault.Fault.{Fault}
@@ -117,11 +119,11 @@ module _ {S : Type 0} (K : Kind S) (layers : Layers S) where
         conserved = λ start up earlier before. always start p.1 up (history p.0 ++ earlier) (leads_on K start s p.1 (history p.0) earlier before (run_leads b s n));
       }
 
-module _ {O S : Type 0} (K : Kind S) (means : O → State S) (layers : O → Layers S) (ls : Layers S) (follow : (o : O) → Follow (layers o) (means o)) where
+module _ {O S : Type 0} (K : Kind S) (it : Ghosts O S) (ls : Layers S) (follow : EachFollows it) where
   -- where objections follow from layers, a replay is what is worked out
-  pub replayed_is_run : (b : List ℕ) (s : State S) (n : ℕ) (faults : List Fault) (tallies : Tallies) (t : State S) → SomeOffice means layers ls t → Replayed K (SomeOffice means layers ls) b s n faults tallies t → Replay K ls b s n faults tallies t
+  pub replayed_is_run : (b : List ℕ) (s : State S) (n : ℕ) (faults : List Fault) (tallies : Tallies) (t : State S) → SomeOffice it ls t → Replayed K (SomeOffice it ls) b s n faults tallies t → Replay K ls b s n faults tallies t
   replayed_is_run b s n faults tallies t f whole =
-      let q = events_worked K ls b whole.turns s t whole.events (each_follows means layers ls follow (history whole.turns) whole.stood) (follows means layers ls follow t f) ∙ ap (run K ls b s) whole.every in
+      let q = events_worked K ls b whole.turns s t whole.events (each_follows it ls follow (history whole.turns) whole.stood) (follows it ls follow t f) ∙ ap (run K ls b s) whole.every in
       let es = ap (λ (z : List (Turn S) × State S). z.0) q in
       record {
         every = ap length (sym es) ∙ whole.every;
@@ -131,7 +133,7 @@ module _ {O S : Type 0} (K : Kind S) (means : O → State S) (layers : O → Lay
       }
 
   -- and so there is one
-  pub one_replay : (b : List ℕ) (s : State S) (n : ℕ) → OneReplay K (SomeOffice means layers ls) b s n
+  pub one_replay : (b : List ℕ) (s : State S) (n : ℕ) → OneReplay K (SomeOffice it ls) b s n
   one_replay b s n t u faults others x y first f second g =
       let p = replayed_is_run b s n faults x t f first in
       let q = replayed_is_run b s n others y u g second in

@@ -6,3 +6,5 @@ pub mod Steps
 pub mod Whole
 pub mod Replayed
 pub mod Quiet
+pub mod Sessions
+pub mod Books

@@ -1,4 +1,4 @@
-ghost use Rattle.std.specs.Prelude.{◌≡◌, ◌<◌, ◌≤◌, ◌+◌, ◌*◌, ◌^◌, true, false, is_ok};
+ghost use Rattle.std.specs.Prelude.{◌≡◌, ◌<◌, ◌≤◌, ◌+◌, ◌*◌, ◌^◌, true, false, OnErr};
 ghost use Rattle.office.specs.Calls.{Keeps};
 ghost use Rattle.book.specs.Events.{code_and_operands};
 ghost use Rattle.calls.specs.Lists.{all_closed};
@@ -26,12 +26,13 @@ impl Reading {
     ghost use Rattle.lending.specs.Promise.{LendingConserved};
     ghost use Rattle.book.specs.Books.{opening};
     ghost use Rattle.replay.specs.Events.{next};
+    ghost use Rattle.replay.specs.Sessions.{events_done, closed_so_far};
     ghost use Rattle.replay.specs.Steps.{Steps, Finishes};
 
     /// A session before the first event.
     pub fn new() -> Reading
-        ensures begins { result.done ≡ 0 }
-        ensures counted { all_closed result.tallies ≡ 0 }
+        ensures begins { events_done result ≡ 0 }
+        ensures counted { all_closed (closed_so_far result) ≡ 0 }
     {
         Reading {
             done: 0,
@@ -43,9 +44,9 @@ impl Reading {
     /// is done with, and leaves the office as it was.
     #[tactic(auto, using(crate::proofs::Stepping::refused_step))]
     pub fn step<O: Office>(&mut self, office: &mut O, book: &[u8]) -> Result<(), Fault>
-        ensures steps { Steps O.Kind.kind (next book.now self.old.done) (O.meaning office.old) self.old result self.new (O.meaning office.new) }
-        ensures same { is_ok result ≡ false → office.new ≡ office.old }
-        ensures idle { quiet O.Kind.kind (O.meaning office.old) (next book.now self.old.done) ≡ true → office.new ≡ office.old }
+        ensures steps { Steps O.Kind.kind (next book.now (events_done self.old)) (O.meaning office.old) self.old result self.new (O.meaning office.new) }
+        ensures same { OnErr result (office.new ≡ office.old) }
+        ensures idle { quiet O.Kind.kind (O.meaning office.old) (next book.now (events_done self.old)) ≡ true → office.new ≡ office.old }
         ensures keeps { Keeps O.Office office.old office.new }
         ensures always { LendingConserved O.Kind.kind }
     {
@@ -87,7 +88,7 @@ fn make_event<O: Office>(office: &mut O, event: Event, tallies: Tallies) -> Resu
     requires { all_closed tallies < 2 ^ 63 }
     ensures comes { Comes O.Kind.kind (asks (code_and_operands event.entry.code event.entry.bytes.now)) 0 (O.meaning office.old) tallies result (tallies_kept tallies result) (O.meaning office.new) }
     ensures few { all_closed (tallies_kept tallies result) ≤ all_closed tallies + most_closed }
-    ensures same { is_ok result ≡ false → office.new ≡ office.old }
+    ensures same { OnErr result (office.new ≡ office.old) }
     ensures idle { quiet O.Kind.kind (O.meaning office.old) (asks (code_and_operands event.entry.code event.entry.bytes.now)) ≡ true → office.new ≡ office.old }
     ensures keeps { Keeps O.Office office.old office.new }
 {
@@ -107,9 +108,11 @@ pub struct Finished {
 }
 
 impl Finished {
+    ghost use Rattle.replay.specs.Sessions.{closed_in_all, has_ended};
+
     /// How many leases the calls of the replay closed.
     pub fn tallies(&self) -> Tallies
-        ensures { result ≡ self.now.closed }
+        ensures { result ≡ closed_in_all self.now }
     {
         self.closed
     }
@@ -117,7 +120,7 @@ impl Finished {
     /// A finished session takes no step: begin a new replay. This is there to be refused by the check at every call, which asks that
     /// the session has not ended.
     pub fn step<O: Office>(&self, _office: &mut O, _book: &[u8]) -> Result<(), Fault>
-        requires reading { self.now.ended ≡ false }
+        requires reading { has_ended self.now ≡ false }
     {
         Err(BookReason::NoEventLeft.into())
     }

@@ -1,13 +1,11 @@
-ghost use Rattle.std.specs.Prelude.{◌≡◌, ◌≤◌, ◌+◌, None, IsOk, IfOk, OnErr, drop, take, vec_len, vec_capacity};
-ghost use Rattle.lending.specs.Layers.{Follow};
+ghost use Rattle.std.specs.Prelude.{◌≡◌, ◌≤◌, ◌+◌, IfOk, take, vec_len, vec_capacity};
 ghost use Rattle.lending.specs.Promise.{LendingConserved};
-ghost use Rattle.office.specs.Calls.{Keeps};
+ghost use Rattle.office.specs.Calls.{Keeps, EachFollows};
 ghost use Rattle.book.specs.Books.{opening, event_count};
-ghost use Rattle.calls.specs.Lists.{SomeOffice};
+ghost use Rattle.replay.specs.Books.{added, BookReplayed, BookRun, OneBookReplay, BookConserves, BookQuiet, BookRead};
 ghost use Rattle.replay.specs.Faults.{refused_event_in};
-ghost use Rattle.replay.specs.Whole.{Replay, RunConserved, Opens, opening_refused};
-ghost use Rattle.replay.specs.Replayed.{Replayed, OneReplay};
-ghost use Rattle.replay.specs.Quiet.{AllQuiet};
+ghost use Rattle.replay.specs.Sessions.{events_done, closed_so_far, closed_in_all};
+ghost use Rattle.replay.specs.Whole.{Opens, opening_refused};
 
 use crate::fault::Fault;
 use crate::session::{Finished, Reading};
@@ -24,18 +22,11 @@ pub fn replay<O: Office>(
     book: &[u8],
     faults: &mut Vec<Fault>,
 ) -> Result<Result<Finished, Fault>, AllocError>
-    ensures opens { IfOk result (λ outcome. refused_event_in outcome ≡ opening_refused (opening book.now)) }
-    ensures replays { IfOk result (λ outcome. IfOk outcome (λ finished. Replayed O.Kind.kind (SomeOffice O.meaning O.layers (O.layers office.old)) book.now (O.meaning office.old) (event_count book.now) (drop (vec_len faults.old) faults.new.items) finished.closed (O.meaning office.new))) }
-    ensures runs { ((o : O) → Follow (O.layers o) (O.meaning o)) → IfOk result (λ outcome. IfOk outcome (λ finished. Replay O.Kind.kind (O.layers office.old) book.now (O.meaning office.old) (event_count book.now) (drop (vec_len faults.old) faults.new.items) finished.closed (O.meaning office.new))) }
-    ensures once { ((o : O) → Follow (O.layers o) (O.meaning o)) → OneReplay O.Kind.kind (SomeOffice O.meaning O.layers (O.layers office.old)) book.now (O.meaning office.old) (event_count book.now) }
-    ensures conserved { RunConserved O.Kind.kind (O.layers office.old) book.now (O.meaning office.old) (event_count book.now) }
-    ensures kept { take (vec_len faults.old) faults.new.items ≡ faults.old.items }
-    ensures same { IfOk result (λ outcome. OnErr outcome ((office.new ≡ office.old) × (faults.new ≡ faults.old))) }
-    ensures no_memory { OnErr result ((office.new ≡ office.old) × (faults.new.items ≡ faults.old.items) × (vec_capacity faults.new ≡ vec_capacity faults.old)) }
-    ensures room { vec_len faults.old + event_count book.now ≤ vec_capacity faults.old → IsOk result }
-    ensures needed { OnErr result (opening_refused (opening book.now) ≡ None) }
-    ensures idle { AllQuiet O.Kind.kind (O.meaning office.old) book.now (event_count book.now) → office.new ≡ office.old }
-    ensures keeps { Keeps O.Office office.old office.new }
+    ensures reads { BookRead O.Kind.kind O.Office book.now office.old office.new faults.old faults.new result }
+    ensures runs { EachFollows O.Office → IfOk result (λ outcome. IfOk outcome (λ finished.
+        BookRun O.Kind.kind O.Office book.now office.old (added faults.old faults.new) (closed_in_all finished) office.new)) }
+    ensures once { EachFollows O.Office → OneBookReplay O.Kind.kind O.Office book.now office.old }
+    ensures conserved { BookConserves O.Kind.kind O.Office book.now office.old }
     ensures always { LendingConserved O.Kind.kind }
 {
     lending_is_conserved::<O::Kind>();
@@ -49,15 +40,7 @@ fn read_book<O: Office>(
     book: &[u8],
     faults: &mut Vec<Fault>,
 ) -> Result<Result<Finished, Fault>, AllocError>
-    ensures opens { IfOk result (λ outcome. refused_event_in outcome ≡ opening_refused (opening book.now)) }
-    ensures replays { IfOk result (λ outcome. IfOk outcome (λ finished. Replayed O.Kind.kind (SomeOffice O.meaning O.layers (O.layers office.old)) book.now (O.meaning office.old) (event_count book.now) (drop (vec_len faults.old) faults.new.items) finished.closed (O.meaning office.new))) }
-    ensures kept { take (vec_len faults.old) faults.new.items ≡ faults.old.items }
-    ensures same { IfOk result (λ outcome. OnErr outcome ((office.new ≡ office.old) × (faults.new ≡ faults.old))) }
-    ensures no_memory { OnErr result ((office.new ≡ office.old) × (faults.new.items ≡ faults.old.items) × (vec_capacity faults.new ≡ vec_capacity faults.old)) }
-    ensures room { vec_len faults.old + event_count book.now ≤ vec_capacity faults.old → IsOk result }
-    ensures needed { OnErr result (opening_refused (opening book.now) ≡ None) }
-    ensures idle { AllQuiet O.Kind.kind (O.meaning office.old) book.now (event_count book.now) → office.new ≡ office.old }
-    ensures keeps { Keeps O.Office office.old office.new }
+    ensures { BookRead O.Kind.kind O.Office book.now office.old office.new faults.old faults.new result }
 {
     let events = match count_events(book) {
         Ok(events) => events,
@@ -93,10 +76,10 @@ fn read_events<O: Office>(
     requires opens { Opens (opening book.now) events }
     requires counted { events ≡ event_count book.now }
     requires room { vec_len faults.old + events ≤ vec_capacity faults.old }
-    ensures replays { Replayed O.Kind.kind (SomeOffice O.meaning O.layers (O.layers office.old)) book.now (O.meaning office.old) events (drop (vec_len faults.old) faults.new.items) result.tallies (O.meaning office.new) }
+    ensures replays { BookReplayed O.Kind.kind O.Office book.now office.old (added faults.old faults.new) (closed_so_far result) office.new }
     ensures kept { take (vec_len faults.old) faults.new.items ≡ faults.old.items }
-    ensures done { result.done ≡ events }
-    ensures idle { AllQuiet O.Kind.kind (O.meaning office.old) book.now events → office.new ≡ office.old }
+    ensures done { events_done result ≡ events }
+    ensures idle { BookQuiet O.Kind.kind O.Office book.now office.old → office.new ≡ office.old }
     ensures keeps { Keeps O.Office office.old office.new }
 {
     lending_is_conserved::<O::Kind>();

@@ -10,7 +10,7 @@ returns-in_err-add_lease g c =
     let text = g.O.Kind.Printed.text in
     let roll = (g.O.Office.meaning c.args.office.now).core.roll in
     let i = c.loop-position.position in
-    let live : c.count-position-end.result ≡ length roll = one_answer c.count-position-end.result (length roll) c.count-position-end.ensures.does.0 in
+    let live : c.count-position-end.result ≡ length roll = one_answer c.count-position-end.result (length roll) c.count-position-end.ensures.tells.0 in
     let within : i < length roll = omega (arith, c.loop-position-test.true) in
     let inv = c.loop-position.invariant in
     stopped c.args.out.now.items c.loop-position.out.items c.add_lease.new.out.items inv.0 (line_there K text roll i) (lines_from K text roll i) (lines_from K text roll (i + 1)) (lease_lines (lease_entries K text roll))
@@ -22,7 +22,7 @@ loop-position-preserved g c =
     let text = g.O.Kind.Printed.text in
     let roll = (g.O.Office.meaning c.args.office.now).core.roll in
     let i = c.loop-position.position in
-    let live : c.count-position-end.result ≡ length roll = one_answer c.count-position-end.result (length roll) c.count-position-end.ensures.does.0 in
+    let live : c.count-position-end.result ≡ length roll = one_answer c.count-position-end.result (length roll) c.count-position-end.ensures.tells.0 in
     let within : i < length roll = omega (arith, c.loop-position-test.true) in
     let inv = c.loop-position.invariant in
     more_after c.args.out.now.items c.loop-position.out.items c.add_lease.new.out.items inv.0 (line_there K text roll i) (lines_from K text roll i) (lines_from K text roll (i + 1)) (lease_lines (lease_entries K text roll))
