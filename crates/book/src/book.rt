@@ -1,5 +1,5 @@
 ghost use Rattle.std.specs.Prelude.{◌≡◌, ◌*◌, ◌≤◌, length};
-ghost use Rattle.book.specs.Limits.{most_events};
+ghost use Rattle.book.specs.declared.limits.TheConstants.{MOST_EVENTS, RECORD};
 
 use crate::event::Event;
 use crate::header::Header;
@@ -13,11 +13,11 @@ pub struct Book<'a> {
     pub header: Header,
     /// a byte for each event
     pub codes: &'a [u8],
-    /// six bytes for each event
+    /// a record for each event
     pub records: &'a [u8],
-    ghost few: { header.events ≤ most_events },
+    ghost few: { header.events ≤ MOST_EVENTS },
     ghost coded: { length codes.now ≡ header.events },
-    ghost recorded: { length records.now ≡ 6 * header.events },
+    ghost recorded: { length records.now ≡ RECORD * header.events },
 }
 
 impl<'a> Book<'a> {

@@ -1,7 +1,11 @@
 ghost use Rattle.std.specs.Prelude.{◌≡◌, ℕ, ◌≤◌, ◌↔◌, List, length};
 ghost use Rattle.shares.specs.Text.{in_front};
+ghost use Rattle.shares.specs.declared.printed.TheConstants.{LONGEST_TEXT};
 
 use crate::share::Share;
+
+/// The most bytes that the text of a share takes.
+pub const LONGEST_TEXT: usize = 190;
 
 /// A kind of share that also has a text.
 pub trait Printed: Share {
@@ -10,11 +14,11 @@ pub trait Printed: Share {
 
     /// Writes the text at the front of a space, where there is always room for it, and answers its length. What stands
     /// after it stays. A space and a length, and no String, since an office has no heap.
-    fn write(self, space: &mut [u8; 190]) -> usize
+    fn write(self, space: &mut [u8; LONGEST_TEXT]) -> usize
         ensures length { result ≡ length (text self) }
         ensures bytes { space.new ≡ in_front (text self) space.old };
 
-    ghost short: { (a : Self) → length (text a) ≤ 190 };
+    ghost short: { (a : Self) → length (text a) ≤ LONGEST_TEXT };
 
     /// Two shares are equal exactly when their texts are.
     ghost exact: { (a b : Self) → (text a ≡ text b) ↔ (a ≡ b) };

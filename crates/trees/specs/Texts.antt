@@ -1,4 +1,4 @@
--- A text tells its tree, and the text of 64 cells has at most 190 bytes.
+-- A text tells its tree, and is short.
 -- A proof, which nobody need read: it stands in specs/ because the implementation names it, and no contract cites it.
 use Rattle.std.specs.Prelude.{IsAscii, ◌≡◌, ℕ, zero, suc, ◌+◌, ◌/◌, ◌%◌, ◌^◌, ◌≤◌, true, false, List, [], ◌∷◌, ◌++◌, length, refl}
 use Rattle.std.proofs.Common.{ap₂, append_assoc, arith, length-append}

@@ -5,7 +5,7 @@ ghost use Rattle.trees.specs.Faithful.{tells};
 
 use crate::block::write_cells;
 use crate::trees::Trees;
-use shares::{PlainText, Printed};
+use shares::{LONGEST_TEXT, PlainText, Printed};
 
 impl Printed for Trees {
     ghost text = { text_of_share };
@@ -14,7 +14,7 @@ impl Printed for Trees {
 
     ghost exact = { tells };
 
-    fn write(self, space: &mut [u8; 190]) -> usize {
+    fn write(self, space: &mut [u8; LONGEST_TEXT]) -> usize {
         write_cells(self.cells, space)
     }
 }
