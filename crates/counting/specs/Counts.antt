@@ -60,3 +60,7 @@ abbrev pub permission_text : Permission → List ℕ
 permission_text Empty = 101 ∷ []
 permission_text (Source n) = 115 ∷ decimal n
 permission_text (Readers k) = 114 ∷ decimal k
+
+-- the text of a share
+abbrev pub text_of_share : Counting → List ℕ
+text_of_share s = permission_text s.held

@@ -1,6 +1,5 @@
 ghost use Rattle.std.specs.Prelude.{◌≡◌, Some, IfSome};
-ghost use Rattle.kinds.specs.Named.{kind_name, Named};
-ghost use Rattle.kinds.specs.Bytes.{kind_byte, kind_of_byte};
+ghost use Rattle.kinds.specs.Kinds.{kind_name, kind_byte, kind_of_byte, Named};
 
 use std::fmt;
 use std::str::FromStr;

@@ -1,5 +1,5 @@
 ghost use Rattle.std.specs.Prelude.{◌≡◌, ℕ, ◌≤◌, ◌↔◌, List, length};
-ghost use Rattle.shares.specs.Text.{in_front};
+ghost use Rattle.shares.specs.Text.{in_front, NoLineBreak};
 ghost use Rattle.shares.specs.declared.printed.TheConstants.{LONGEST_TEXT};
 
 use crate::share::Share;
@@ -19,6 +19,8 @@ pub trait Printed: Share {
         ensures bytes { space.new ≡ in_front (text self) space.old };
 
     ghost short: { (a : Self) → length (text a) ≤ LONGEST_TEXT };
+
+    ghost on_a_line: { NoLineBreak text };
 
     /// Two shares are equal exactly when their texts are.
     ghost exact: { (a b : Self) → (text a ≡ text b) ↔ (a ≡ b) };

@@ -1,6 +1,6 @@
 ghost use Rattle.std.specs.Prelude.{◌≡◌, [], ◌∷◌};
 ghost use Rattle.shares.specs.Text.{in_front};
-ghost use Rattle.counting.specs.Counts.{permission_text};
+ghost use Rattle.counting.specs.Counts.{text_of_share};
 ghost use Rattle.counting.specs.Texts;
 ghost use Rattle.counting.specs.Texts.{tells};
 
@@ -9,9 +9,11 @@ use crate::permission::Permission;
 use shares::{LONGEST_TEXT, PlainText, Printed, write_count};
 
 impl Printed for Counting {
-    ghost text = { λ s. permission_text s.held };
+    ghost text = { text_of_share };
 
     ghost short = { λ a. Texts.short a.held a.limited };
+
+    ghost on_a_line = { λ a. Texts.on_a_line a.held a.limited };
 
     ghost exact = { tells };
 

@@ -1,5 +1,5 @@
 ghost use Rattle.trees.specs.Cells.{tree, text_of_share};
-ghost use Rattle.trees.specs.Texts.{text_ascii};
+ghost use Rattle.trees.specs.Texts.{text_ascii, text_on_a_line};
 ghost use Rattle.trees.specs.Faithful;
 ghost use Rattle.trees.specs.Faithful.{tells};
 
@@ -11,6 +11,8 @@ impl Printed for Trees {
     ghost text = { text_of_share };
 
     ghost short = { Faithful.short };
+
+    ghost on_a_line = { λ a. text_on_a_line (tree a) };
 
     ghost exact = { tells };
 
