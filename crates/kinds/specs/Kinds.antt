@@ -21,10 +21,10 @@ abbrev pub kind_byte : KindOfShare → ℕ
 kind_byte Trees = 1
 kind_byte Counting = 2
 
--- its shares and their texts
-abbrev pub printed_kind : KindOfShare → PrintedKind
-printed_kind Trees = record { Share = _; kind = trees_kind; text = trees_text }
-printed_kind Counting = record { Share = _; kind = counting_kind; text = counting_text }
+-- what f says of the shares of a kind and their texts
+abbrev pub by_kind {ℓ} : {A : Type ℓ} → (PrintedKind → A) → KindOfShare → A
+by_kind f Trees = f (record { Share = _; kind = trees_kind; text = trees_text })
+by_kind f Counting = f (record { Share = _; kind = counting_kind; text = counting_text })
 
 -- reading a name gives the kind whose name it is; it fails where no kind has the name
 abbrev pub Named : {E : Type 0} → List ℕ → Result KindOfShare E → Type 0
