@@ -31,13 +31,13 @@ impl Event<'_> {
         ]
     }
 
-    /// What it asks for, with its operands. Refused if no call has its code, or an operand that the call doesn't use is not 0.
-    pub fn asked(&self) -> Result<(Code, [u16; 3]), BookReason>
+    /// Its code and its operands. Refused if no call has the code, or an operand that the call doesn't use is not 0.
+    pub fn code_and_operands(&self) -> Result<(Code, [u16; 3]), BookReason>
         ensures { code_and_operands_of result ≡ code_and_operands self.now.code self.now.bytes.now }
     {
         let code = Code::of_byte(self.code).ok_or(BookReason::UnknownCode)?;
         let operands = self.operands();
-        if are_zero(&operands[code.used()..]) {
+        if are_zero(&operands[code.operands_used()..]) {
             Ok((code, operands))
         } else {
             Err(BookReason::UnusedOperand)
