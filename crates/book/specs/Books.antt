@@ -1,5 +1,6 @@
 -- What the bytes of a book say.
-use Rattle.std.specs.Prelude.{◌≡◌, ℕ, ◌+◌, ◌*◌, List, [], ◌∷◌, ◌++◌, length, take, drop, slice_index, Option, Some, None, Result, Ok, Err, ◌==◌, nat_lt, if◌then◌else◌}
+use Rattle.std.specs.Prelude.{◌≡◌, ℕ, ◌+◌, ◌*◌, ◌==◌, nat_lt, if◌then◌else◌, Option, Some, None, Result, Ok, Err}
+use Rattle.std.specs.Prelude.{List, [], ◌∷◌, ◌++◌, length, take, drop, slice_index}
 use Rattle.kinds.specs.declared.kind.KindOfShare.{KindOfShare}
 use Rattle.kinds.specs.Kinds.{kind_byte, kind_of_byte}
 use Rattle.book.specs.declared.header.Header.{Header}
@@ -23,7 +24,8 @@ with_kind b (Some kind) =
     Ok (record { events = event_count b; kind = kind; chain = slice_index b 3; term = number_at b 4 })
     else Err 45)
 
--- Opening a book: what its header says, or the number of its refusal. 41: there is no header; 42: there are too many events.
+-- Opening a book: what its header says, or the number of its refusal. 41: there is no header; 42: there are too many
+-- events.
 abbrev pub opening : List ℕ → Result Header ℕ
 opening b =
     if nat_lt (length b) HEADER then Err 41 else

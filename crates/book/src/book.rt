@@ -25,13 +25,13 @@ impl<'a> Book<'a> {
     ghost use Rattle.book.specs.Books.{opening, header_or_number, book_bytes, event_in, event_parts};
     ghost use Rattle.book.specs.Places.{further};
 
-    /// Opens a book, or refuses its bytes by the first rule that they break. A book that opens is all of its bytes, and its two
-    /// arrays are those very parts of them.
+    /// Opens a book, or refuses its bytes by the first rule that they break. A book that opens is all of its bytes, and its
+    /// two arrays are those very parts of them.
     pub fn open(bytes: &'a [u8]) -> Result<Book<'a>, BookReason>
         ensures is { header_or_number result ≡ opening bytes.now }
         ensures whole { IfOk result (λ book. book_bytes book ≡ bytes.now) }
         ensures codes { IfOk result (λ book. book.codes.ref_ptr ≡ further bytes.entry.ref_ptr HEADER) }
-        ensures records { IfOk result (λ book. book.records.ref_ptr ≡ further bytes.entry.ref_ptr (HEADER + book.header.events)) }
+        ensures records { IfOk result (λ book. book.records.ref_ptr ≡ further book.codes.ref_ptr book.header.events) }
     {
         let [n0, n1, kind, chain, t0, t1, z0, z1, rest @ ..] = bytes else {
             return Err(BookReason::TooShort);

@@ -1,5 +1,5 @@
--- The kinds of share that the house uses: the name of each, its byte in a book, and what its shares are. A new kind is added
--- here, and in src/kind.rt.
+-- The kinds of share that the house uses: the name of each, its byte in a book, its operations and its texts. A new kind is a
+-- line in each of the first four definitions, and in src/kind.rt.
 use Rattle.std.specs.Prelude.{◌≡◌, ◌≢◌, ℕ, List, [], ◌∷◌, Option, Result, Ok, Err, codes, ◌==◌}
 use Rattle.std.specs.List.{find}
 use Rattle.shares.specs.Kind.{PrintedKind}
@@ -12,6 +12,7 @@ use Rattle.kinds.specs.declared.kind.KindOfShare.TheVariants.{Trees, Counting}
 abbrev pub kinds : List KindOfShare
 kinds = Trees ∷ Counting ∷ []
 
+-- the name by which everybody knows a kind
 abbrev pub kind_name : KindOfShare → List ℕ
 kind_name Trees = codes "trees"
 kind_name Counting = codes "counting"
@@ -21,7 +22,7 @@ abbrev pub kind_byte : KindOfShare → ℕ
 kind_byte Trees = 1
 kind_byte Counting = 2
 
--- what f says of the shares of a kind and their texts
+-- what f says of a kind's shares and their texts
 abbrev pub by_kind {ℓ} : {A : Type ℓ} → (PrintedKind → A) → KindOfShare → A
 by_kind f Trees = f (record { Share = _; kind = trees_kind; text = trees_text })
 by_kind f Counting = f (record { Share = _; kind = counting_kind; text = counting_text })

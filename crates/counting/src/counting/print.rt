@@ -30,8 +30,7 @@ impl PlainText for Counting {
     ghost ascii = { λ a. Texts.ascii a.held a.limited };
 }
 
-// Writes a letter at the front of a space, and answers how many bytes that are. (A space and a length, since an office has
-// no heap.)
+// Writes a letter at the front of a space, and answers how many bytes that takes: 1.
 fn write_letter(letter: u8, space: &mut [u8; LONGEST_TEXT]) -> usize
     ensures length { result ≡ 1 }
     ensures bytes { space.new ≡ in_front (letter ∷ []) space.old }
