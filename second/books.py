@@ -563,7 +563,7 @@ def damage(rng, book, way):
         events = rng.choice([4095, 4096, 4097])
         return events.to_bytes(2, "little") + book[2:8] + bytes(7 * events)
     if way == 7 and long_enough:
-        book[2] = rng.choice([0, 3, 4, 127, 255])
+        book[2] = rng.choice([0, 4, 5, 127, 255])
     if way == 8 and long_enough:
         book[rng.choice([6, 7])] = rng.choice([1, 128, 255])
     if way == 9 and long_enough:

@@ -1,12 +1,13 @@
 -- What the bytes of a book say.
-use Rattle.std.specs.Prelude.{◌≡◌, ℕ, ◌+◌, ◌*◌, List, [], ◌∷◌, ◌++◌, length, take, drop, slice_index, Option, Some, None, Result, Ok, Err, ◌==◌, nat_lt, if◌then◌else◌}
+use Rattle.std.specs.Prelude.{◌≡◌, ℕ, ◌+◌, ◌*◌, ◌==◌, nat_lt, if◌then◌else◌, Option, Some, None, Result, Ok, Err}
+use Rattle.std.specs.Prelude.{List, [], ◌∷◌, ◌++◌, length, take, drop, slice_index}
 use Rattle.kinds.specs.declared.kind.KindOfShare.{KindOfShare}
-use Rattle.kinds.specs.Bytes.{kind_byte, kind_of_byte}
+use Rattle.kinds.specs.Kinds.{kind_byte, kind_of_byte}
 use Rattle.book.specs.declared.header.Header.{Header}
 use Rattle.book.specs.declared.book.Book.{Book}
 use Rattle.book.specs.declared.event.Event.{Event}
 use Rattle.book.specs.declared.reason.BookReason.{BookReason}
-use Rattle.book.specs.Limits.{most_events}
+use Rattle.book.specs.declared.limits.TheConstants.{HEADER, RECORD, EVENT, MOST_EVENTS}
 use Rattle.book.specs.Bytes.{number_at, two_bytes}
 use Rattle.book.specs.Numbers.{book_reason_number}
 
@@ -19,15 +20,16 @@ abbrev pub with_kind : List ℕ → Option KindOfShare → Result Header ℕ
 with_kind b None = Err 43
 with_kind b (Some kind) =
     if nat_lt 0 (number_at b 6) then Err 44 else
-    (if length b == 8 + 7 * event_count b then
+    (if length b == HEADER + EVENT * event_count b then
     Ok (record { events = event_count b; kind = kind; chain = slice_index b 3; term = number_at b 4 })
     else Err 45)
 
--- Opening a book: what its header says, or the number of its refusal. 41: there is no header; 42: there are too many events.
+-- Opening a book: what its header says, or the number of its refusal. 41: there is no header; 42: there are too many
+-- events.
 abbrev pub opening : List ℕ → Result Header ℕ
 opening b =
-    if nat_lt (length b) 8 then Err 41 else
-    (if nat_lt most_events (event_count b) then Err 42 else
+    if nat_lt (length b) HEADER then Err 41 else
+    (if nat_lt MOST_EVENTS (event_count b) then Err 42 else
     with_kind b (kind_of_byte (slice_index b 2)))
 
 -- opening the first bytes of an input, so many at most, says what opening all of them says
@@ -47,10 +49,12 @@ header_bytes h = two_bytes h.events ++ kind_byte h.kind ∷ h.chain ∷ two_byte
 abbrev pub book_bytes : Book → List ℕ
 book_bytes book = header_bytes book.header ++ book.codes.now ++ book.records.now
 
--- Event i of a book with these bytes, from 0: its code, and the six bytes of its record.
+-- Event i of a book with these bytes, from 0: its code, and the bytes of its record.
 abbrev pub event_in : List ℕ → ℕ → Option (ℕ × List ℕ)
 event_in b i =
-    if nat_lt i (event_count b) then Some (slice_index b (8 + i), take 6 (drop (8 + event_count b + 6 * i) b)) else None
+    if nat_lt i (event_count b) then
+    Some (slice_index b (HEADER + i), take RECORD (drop (HEADER + event_count b + RECORD * i) b))
+    else None
 
 -- an event of the code
 abbrev pub event_parts : Option Event → Option (ℕ × List ℕ)

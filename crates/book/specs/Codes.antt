@@ -15,11 +15,11 @@ code_of_byte byte =
     (if byte == 7 then Some Day else None))))))
 
 -- how many operands a call uses
-abbrev pub used : Code → ℕ
-used Open = 2
-used Delegate = 3
-used Yield = 1
-used Merge = 2
-used Assign = 2
-used Recall = 1
-used Day = 1
+abbrev pub operands_used : Code → ℕ
+operands_used Open = 2
+operands_used Delegate = 3
+operands_used Yield = 1
+operands_used Merge = 2
+operands_used Assign = 2
+operands_used Recall = 1
+operands_used Day = 1

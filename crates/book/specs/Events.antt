@@ -4,7 +4,7 @@ use Rattle.std.specs.List.{list_all}
 use Rattle.book.specs.declared.code.Code.{Code}
 use Rattle.book.specs.declared.reason.BookReason.{BookReason}
 use Rattle.book.specs.Bytes.{number_at}
-use Rattle.book.specs.Codes.{code_of_byte, used}
+use Rattle.book.specs.Codes.{code_of_byte, operands_used}
 use Rattle.book.specs.Numbers.{book_reason_number}
 
 -- the three operands of a record
@@ -14,7 +14,7 @@ operands_of bytes = number_at bytes 0 ∷ number_at bytes 2 ∷ number_at bytes 
 -- 48: an operand that isn't used is not 0
 abbrev pub with_operands : Code → List ℕ → Result (Code × List ℕ) ℕ
 with_operands code operands =
-    if list_all (λ n. n == 0) (drop (used code) operands) then Ok (code, operands) else Err 48
+    if list_all (λ n. n == 0) (drop (operands_used code) operands) then Ok (code, operands) else Err 48
 
 -- 47: no call has the code
 abbrev pub with_code : Option Code → List ℕ → Result (Code × List ℕ) ℕ

@@ -1,4 +1,3 @@
-pub mod Limits
 pub mod Numbers
 pub mod Bytes
 pub mod Places

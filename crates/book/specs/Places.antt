@@ -1,4 +1,4 @@
--- Where bytes stand. A place is an allocation and the byte in it, so that equal bytes that stand elsewhere have another place.
+-- Where bytes stand. A place is an allocation and the byte in it, so that equal bytes elsewhere have another place.
 use Rattle.std.specs.Prelude.{ℕ, ◌+◌}
 
 -- the place so many bytes further on in the same allocation

@@ -1,5 +1,5 @@
 ghost use Rattle.std.specs.Prelude.{◌≡◌, ◌*◌, ◌≤◌, length};
-ghost use Rattle.book.specs.Limits.{most_events};
+ghost use Rattle.book.specs.declared.limits.TheConstants.{MOST_EVENTS, RECORD};
 
 use crate::event::Event;
 use crate::header::Header;
@@ -13,11 +13,11 @@ pub struct Book<'a> {
     pub header: Header,
     /// a byte for each event
     pub codes: &'a [u8],
-    /// six bytes for each event
+    /// a record for each event
     pub records: &'a [u8],
-    ghost few: { header.events ≤ most_events },
+    ghost few: { header.events ≤ MOST_EVENTS },
     ghost coded: { length codes.now ≡ header.events },
-    ghost recorded: { length records.now ≡ 6 * header.events },
+    ghost recorded: { length records.now ≡ RECORD * header.events },
 }
 
 impl<'a> Book<'a> {
@@ -25,13 +25,13 @@ impl<'a> Book<'a> {
     ghost use Rattle.book.specs.Books.{opening, header_or_number, book_bytes, event_in, event_parts};
     ghost use Rattle.book.specs.Places.{further};
 
-    /// Opens a book, or refuses its bytes by the first rule that they break. A book that opens is all of its bytes, and its two
-    /// arrays are those very parts of them.
+    /// Opens a book, or refuses its bytes by the first rule that they break. A book that opens is all of its bytes, and its
+    /// two arrays are those very parts of them.
     pub fn open(bytes: &'a [u8]) -> Result<Book<'a>, BookReason>
         ensures is { header_or_number result ≡ opening bytes.now }
         ensures whole { IfOk result (λ book. book_bytes book ≡ bytes.now) }
         ensures codes { IfOk result (λ book. book.codes.ref_ptr ≡ further bytes.entry.ref_ptr HEADER) }
-        ensures records { IfOk result (λ book. book.records.ref_ptr ≡ further bytes.entry.ref_ptr (HEADER + book.header.events)) }
+        ensures records { IfOk result (λ book. book.records.ref_ptr ≡ further book.codes.ref_ptr book.header.events) }
     {
         let [n0, n1, kind, chain, t0, t1, z0, z1, rest @ ..] = bytes else {
             return Err(BookReason::TooShort);

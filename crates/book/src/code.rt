@@ -1,5 +1,5 @@
 ghost use Rattle.std.specs.Prelude.{◌≡◌, ◌≤◌};
-ghost use Rattle.book.specs.Codes.{code_of_byte, used};
+ghost use Rattle.book.specs.Codes.{code_of_byte, operands_used};
 
 /// What an event asks for, by its code.
 #[derive(Clone, Copy, PartialEq, Eq, Debug, Drop)]
@@ -30,9 +30,9 @@ impl Code {
         }
     }
 
-    /// How many of the three operands its call uses; they are the first.
-    pub fn used(self) -> usize
-        ensures is { result ≡ used self }
+    /// How many operands its call uses: the first so many of the three.
+    pub fn operands_used(self) -> usize
+        ensures is { result ≡ operands_used self }
         ensures most { result ≤ 3 }
     {
         match self {

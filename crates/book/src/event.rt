@@ -1,5 +1,6 @@
 ghost use Rattle.std.specs.Prelude.{◌≡◌, ◌==◌, length};
 ghost use Rattle.std.specs.List.{list_all};
+ghost use Rattle.book.specs.declared.limits.TheConstants.{RECORD};
 
 use crate::code::Code;
 use crate::reason::BookReason;
@@ -10,7 +11,7 @@ pub struct Event<'a> {
     pub code: u8,
     /// a slice and no array, since the library doesn't say of an array that it makes of a slice where the array stands
     pub bytes: &'a [u8],
-    ghost six: { length bytes.now ≡ 6 },
+    ghost sized: { length bytes.now ≡ RECORD },
 }
 
 impl Event<'_> {
@@ -30,13 +31,13 @@ impl Event<'_> {
         ]
     }
 
-    /// What it asks for, with its operands. Refused if no call has its code, or an operand that the call doesn't use is not 0.
-    pub fn asked(&self) -> Result<(Code, [u16; 3]), BookReason>
+    /// Its code and its operands. Refused if no call has the code, or an operand that the call doesn't use is not 0.
+    pub fn code_and_operands(&self) -> Result<(Code, [u16; 3]), BookReason>
         ensures { code_and_operands_of result ≡ code_and_operands self.now.code self.now.bytes.now }
     {
         let code = Code::of_byte(self.code).ok_or(BookReason::UnknownCode)?;
         let operands = self.operands();
-        if are_zero(&operands[code.used()..]) {
+        if are_zero(&operands[code.operands_used()..]) {
             Ok((code, operands))
         } else {
             Err(BookReason::UnusedOperand)

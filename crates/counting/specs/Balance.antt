@@ -18,10 +18,12 @@ readers_held Empty = 0
 readers_held (Source n) = 0
 readers_held (Readers k) = k
 
+-- how many all of some shares have given out, or hold
 abbrev pub total : (Permission → ℕ) → List Counting → ℕ
 total count [] = 0
 total count (s ∷ ss) = count s.held + total count ss
 
 -- Of some shares that join to the whole, as many readers are given out as are held.
 abbrev pub GivenOutIsHeld : Type 0
-GivenOutIsHeld = (shares : List Counting) → together counting_kind shares ≡ Some counting_kind.whole → total readers_given_out shares ≡ total readers_held shares
+GivenOutIsHeld = (shares : List Counting) → together counting_kind shares ≡ Some counting_kind.whole
+    → total readers_given_out shares ≡ total readers_held shares

@@ -1,5 +1,7 @@
--- Counting shares, as in the permissions of Bornat, Calcagno, O'Hearn and Parkinson: what a source has given out is what its readers hold.
-use Rattle.std.specs.Prelude.{◌≡◌, ℕ, ◌+◌, ◌-◌, Bool, true, false, if◌then◌else◌, List, [], ◌∷◌, Some, None, decimal, Option, ◌==◌, nat_le, refl}
+-- Counting shares, as in the permissions of Bornat, Calcagno, O'Hearn and Parkinson: a source counts the readers that it has
+-- given out.
+use Rattle.std.specs.Prelude.{◌≡◌, refl, ℕ, ◌+◌, ◌-◌, ◌==◌, nat_le, Bool, true, false, if◌then◌else◌}
+use Rattle.std.specs.Prelude.{List, [], ◌∷◌, decimal, Option, Some, None}
 use Rattle.shares.specs.Kind.{Kind, bind}
 use Rattle.counting.specs.declared.permission.Permission.{Permission}
 use Rattle.counting.specs.declared.permission.Permission.TheVariants.{Empty, Source, Readers}
@@ -53,10 +55,20 @@ alike (Readers j) (Source m) = false
 alike (Readers j) (Readers k) = j == k
 
 abbrev pub counting_kind : Kind Counting
-counting_kind = record { empty = counting_of Empty; whole = counting_of (Source 0); join = join; halve = halve; same = λ a b. alike a.held b.held }
+counting_kind = record {
+  empty = counting_of Empty;
+  whole = counting_of (Source 0);
+  join = join;
+  halve = halve;
+  same = λ a b. alike a.held b.held;
+}
 
 -- `e`, `s` and how many readers it has given out, or `r` and how many it holds
 abbrev pub permission_text : Permission → List ℕ
 permission_text Empty = 101 ∷ []
 permission_text (Source n) = 115 ∷ decimal n
 permission_text (Readers k) = 114 ∷ decimal k
+
+-- the text of a share
+abbrev pub text_of_share : Counting → List ℕ
+text_of_share s = permission_text s.held

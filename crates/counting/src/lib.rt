@@ -1,5 +1,5 @@
-//! Counting shares: a source that has given out so many readers, or so many readers, as in the permissions of Bornat and
-//! others.
+//! Counting shares, as in the permissions of Bornat and others: a source that has given out so many readers, or so many
+//! readers.
 #![tactic(auto)]
 
 mod balance;

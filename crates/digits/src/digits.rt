@@ -2,11 +2,11 @@ ghost use Rattle.std.specs.Prelude.{◌≤◌};
 
 mod write;
 
-/// Digits kept in decimal: the first `count` bytes. Ten suffice for every number of 32 bits. An array and a count, since an
-/// office has no heap, and a value that is copied.
+/// The digits of a number of 32 bits, in decimal. Ten suffice for each.
 #[derive(Clone, Copy)]
 pub struct Digits {
     bytes: [u8; 10],
+    // how many of the bytes are digits of the number
     count: usize,
     ghost fits: { count ≤ 10 },
 }

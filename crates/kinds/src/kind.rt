@@ -1,6 +1,7 @@
+// All that is said of each kind of share stands in this file and in specs/Kinds.antt. A new kind is a variant, a name, and a
+// line in each `match` here.
 ghost use Rattle.std.specs.Prelude.{◌≡◌, Some, IfSome};
-ghost use Rattle.kinds.specs.Named.{kind_name, Named};
-ghost use Rattle.kinds.specs.Bytes.{kind_byte, kind_of_byte};
+ghost use Rattle.kinds.specs.Kinds.{kind_name, kind_byte, kind_of_byte, Named};
 
 use std::fmt;
 use std::str::FromStr;
@@ -15,11 +16,6 @@ pub enum KindOfShare {
 
 /// Their names, for a sentence.
 pub const KIND_NAMES: &str = "trees or counting";
-
-/// The error of a name that no kind has.
-#[derive(Clone, Copy, PartialEq, Eq, Debug, Drop, Error)]
-#[error("no kind of share has this name")]
-pub struct NoSuchKind;
 
 impl KindOfShare {
     /// The name of a kind.
@@ -45,15 +41,6 @@ impl KindOfShare {
     }
 }
 
-// A kind prints as its name.
-impl fmt::Display for KindOfShare {
-    ghost output = { λ kind. Some (kind_name kind) };
-
-    fn fmt<W: fmt::Write>(&self, f: &mut fmt::Formatter<W>) -> fmt::Result {
-        f.write_str(self.name())
-    }
-}
-
 // The kind with a name, if there is one.
 impl FromStr for KindOfShare {
     type Err = NoSuchKind;
@@ -69,8 +56,8 @@ impl FromStr for KindOfShare {
     }
 }
 
-/// Calls a function over any kind of share at the kind that a value names. A caller has all of this crate in scope. It is a
-/// macro, since a closure, a `dyn` or a function pointer has one type, and what is called is generic in the kind.
+/// Calls a function that is generic in the kind of share, at the kind that a value names. A caller brings in all of this
+/// crate. It is a macro, since a closure, a `dyn` or a function pointer has one type.
 #[macro_export]
 macro_rules! of_kind {
     ($kind:expr, $call:ident($($x:expr),*)) => {
@@ -79,4 +66,18 @@ macro_rules! of_kind {
             KindOfShare::Counting => $call::<Counting>($($x),*),
         }
     };
+}
+
+/// The error of a name that no kind has.
+#[derive(Clone, Copy, PartialEq, Eq, Debug, Drop, Error)]
+#[error("no kind of share has this name")]
+pub struct NoSuchKind;
+
+// A kind prints as its name.
+impl fmt::Display for KindOfShare {
+    ghost output = { λ kind. Some (kind_name kind) };
+
+    fn fmt<W: fmt::Write>(&self, f: &mut fmt::Formatter<W>) -> fmt::Result {
+        f.write_str(self.name())
+    }
 }

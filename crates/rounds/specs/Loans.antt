@@ -8,7 +8,8 @@ module _ {S : Type 0} (K : Kind S) where
   -- the loans to n borrowers: each gets the lent half of what is left, until that doesn't halve
   abbrev pub loans_of : ℕ → S → List (Loan S)
   loans_of zero left = []
-  loans_of (suc n) left = elim (K.halve left) [ None ↦ [] | Some h ↦ record { lent = h.1; kept = h.0 } ∷ loans_of n h.0 ]
+  loans_of (suc n) left =
+      elim (K.halve left) [ None ↦ [] | Some h ↦ record { lent = h.1; kept = h.0 } ∷ loans_of n h.0 ]
 
   -- what is left after them
   abbrev pub left_of : ℕ → S → S

@@ -8,6 +8,15 @@ same_answers None None f g = refl
 same_answers None (Some d) f g = g d refl
 same_answers (Some d) p f g = sym (f d refl)
 
+-- what is joined from the right is joined from the left in another order
+pub turned : {S : Type 0} (◌⊕◌ : S → S → Option S) → ((a b : S) → ◌⊕◌ a b ≡ ◌⊕◌ b a) → (a b c : S)
+    → bind (◌⊕◌ b c) (λ bc. ◌⊕◌ a bc) ≡ bind (◌⊕◌ b c) (λ bc. ◌⊕◌ bc a)
+turned {S} ◌⊕◌ commutes a b c = go (◌⊕◌ b c)
+  where
+    go : (o : Option S) → bind o (λ bc. ◌⊕◌ a bc) ≡ bind o (λ bc. ◌⊕◌ bc a)
+    go None = refl
+    go (Some x) = commutes a x
+
 module _ {S : Type 0} (w : S → ℕ) (◌⊕◌ : S → S → Option S)
     (inj : (a b : S) → w a ≡ w b → a ≡ b)
     (fwd : (a b c : S) → ◌⊕◌ a b ≡ Some c → w c ≡ w a + w b)
@@ -32,23 +41,12 @@ module _ {S : Type 0} (w : S → ℕ) (◌⊕◌ : S → S → Option S)
       let p = e.1 in
       ap (λ o. bind o (λ ab. ◌⊕◌ ab c)) (bwd a b e.0 p) ∙ bwd e.0 c d (omega (arith, p, h))
 
-  right_weight : (a b c d : S) → bind (◌⊕◌ b c) (λ bc. ◌⊕◌ a bc) ≡ Some d → w d ≡ w a + w b + w c
-  right_weight a b c d = go (◌⊕◌ b c) refl
-    where
-      go : (o : Option S) → ◌⊕◌ b c ≡ o → bind o (λ bc. ◌⊕◌ a bc) ≡ Some d → w d ≡ w a + w b + w c
-      go None f e = let z : ◌≡◌ {A = ℕ} 0 1 = cc in omega arith
-      go (Some x) f e = omega (arith, fwd b c x f, fwd a x d e)
-
-  right_made : (a b c d : S) → w d ≡ w a + w b + w c → bind (◌⊕◌ b c) (λ bc. ◌⊕◌ a bc) ≡ Some d
-  right_made a b c d h =
-      let e = part b c a d (omega (arith, h)) in
-      let p = e.1 in
-      ap (λ o. bind o (λ bc. ◌⊕◌ a bc)) (bwd b c e.0 p) ∙ bwd a e.0 d (omega (arith, p, h))
-
   pub associates : (a b c : S) → bind (◌⊕◌ a b) (λ ab. ◌⊕◌ ab c) ≡ bind (◌⊕◌ b c) (λ bc. ◌⊕◌ a bc)
   associates a b c =
-      same_answers (bind (◌⊕◌ a b) (λ ab. ◌⊕◌ ab c)) (bind (◌⊕◌ b c) (λ bc. ◌⊕◌ a bc))
-      (λ d e. right_made a b c d (left_weight a b c d e)) (λ d e. left_made a b c d (right_weight a b c d e))
+      same_answers (bind (◌⊕◌ a b) (λ ab. ◌⊕◌ ab c)) (bind (◌⊕◌ b c) (λ bc. ◌⊕◌ bc a))
+      (λ d e. let p = left_weight a b c d e in left_made b c a d (omega (arith, p)))
+      (λ d e. let p = left_weight b c a d e in left_made a b c d (omega (arith, p)))
+      ∙ sym (turned ◌⊕◌ commutes a b c)
 
   pub cancels : (a b c d : S) → ◌⊕◌ a c ≡ Some d → ◌⊕◌ b c ≡ Some d → a ≡ b
   cancels a b c d p q = inj a b (omega (arith, fwd a c d p, fwd b c d q))

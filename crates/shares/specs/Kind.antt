@@ -1,5 +1,5 @@
 -- A kind of share: a separation algebra with cancellation (Calcagno, O'Hearn and Yang), a whole, and halves.
-use Rattle.std.specs.Prelude.{◌≡◌, Bool, T, ◌↔◌, Some, None, Option, ◌≢◌}
+use Rattle.std.specs.Prelude.{◌≡◌, ℕ, Bool, T, ◌↔◌, List, Some, None, Option, ◌≢◌}
 
 -- goes on with a value, if there is one
 abbrev pub bind : {A B : Type 0} → Option A → (A → Option B) → Option B
@@ -17,6 +17,12 @@ pub record Kind (S : Type 0) : Type 0 where
   -- whether two shares are equal
   pub same : S → S → Bool
 
+-- A kind of share, its shares and their texts.
+pub record PrintedKind : Type 1 where
+  pub Share : Type 0
+  pub kind : Kind Share
+  pub text : Share → List ℕ
+
 -- The laws of a kind. Where two joins are equal, each is defined exactly when the other is.
 pub record Laws {S : Type 0} (K : Kind S) : Type 0 where
   pub commutes : (a b : S) → K.join a b ≡ K.join b a
@@ -27,5 +33,6 @@ pub record Laws {S : Type 0} (K : Kind S) : Type 0 where
   pub whole_not_empty : K.whole ≡ K.empty → ⊥
   pub whole_takes_only_empty : (a s : S) → K.join a K.whole ≡ Some s → a ≡ K.empty
   pub halves_join : (s kept lent : S) → K.halve s ≡ Some (kept, lent) → K.join kept lent ≡ Some s
-  pub halves_not_empty : (s kept lent : S) → K.halve s ≡ Some (kept, lent) → (kept ≢ K.empty) × (lent ≢ K.empty)
+  pub halves_not_empty : (s kept lent : S) → K.halve s ≡ Some (kept, lent)
+      → (kept ≢ K.empty) × (lent ≢ K.empty)
   pub same_tells : (a b : S) → T (K.same a b) ↔ (a ≡ b)

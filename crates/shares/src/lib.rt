@@ -11,6 +11,6 @@ mod text;
 pub use count::write_count;
 pub use joins::join_all;
 pub use plain_text::PlainText;
-pub use printed::Printed;
+pub use printed::{LONGEST_TEXT, Printed};
 pub use share::Share;
 pub use text::Text;

@@ -1,5 +1,6 @@
 -- A block as the code has it: its size in cells, and its cells as the bits of a number.
-use Rattle.std.specs.Prelude.{◌≡◌, ℕ, ◌+◌, ◌-◌, ◌^◌, ◌<◌, if◌then◌else◌, List, ◌++◌, length, take, drop, Some, None, Option, nat_le}
+use Rattle.std.specs.Prelude.{◌≡◌, ℕ, ◌+◌, ◌-◌, ◌^◌, ◌<◌, if◌then◌else◌, nat_le}
+use Rattle.std.specs.Prelude.{List, ◌++◌, length, take, drop, Some, None, Option}
 use Rattle.trees.specs.Tree.{Tree, kept, has_filled_cell, text}
 use Rattle.trees.specs.Cells.{span, tree_of, cells_of}
 

@@ -1,5 +1,6 @@
 -- Tree shares as sets of the cells 0 to 63, and the tree of each.
-use Rattle.std.specs.Prelude.{ℕ, zero, suc, ◌+◌, ◌-◌, ◌*◌, ◌/◌, ◌%◌, ◌^◌, Bool, true, false, if◌then◌else◌, ◌||◌, List, Some, None, Option, ◌==◌, bit_and, bit_or}
+use Rattle.std.specs.Prelude.{ℕ, zero, suc, ◌+◌, ◌-◌, ◌*◌, ◌/◌, ◌%◌, ◌^◌, ◌==◌, bit_and, bit_or}
+use Rattle.std.specs.Prelude.{Bool, true, false, if◌then◌else◌, ◌||◌, List, Some, None, Option}
 use Rattle.std.proofs.Common.{mod-lt, pow_pos}
 use Rattle.shares.specs.Kind.{Kind, bind}
 use Rattle.trees.specs.declared.trees.Trees.{Trees}
@@ -46,13 +47,21 @@ share t = trees_of_cells (cells_of 6 t)
 abbrev pub union : Trees → Trees → Option Trees
 union a b = if bit_and a.cells b.cells == 0 then Some (trees_of_cells (bit_or a.cells b.cells)) else None
 
--- the cells kept and the cells lent where each filled leaf is cut in two; None if there are no cells or a filled leaf is one
+-- the cells kept and the cells lent where each filled leaf is cut in two; None if the set is empty or a filled leaf is one cell
 unfoldable pub cut : ℕ → Option (ℕ × ℕ)
-cut n = let t = tree_of 6 n in if n == 0 || has_filled_cell 6 t then None else Some (cells_of 6 (kept t), cells_of 6 (lent t))
+cut n =
+    let t = tree_of 6 n in
+    if n == 0 || has_filled_cell 6 t then None else Some (cells_of 6 (kept t), cells_of 6 (lent t))
 
 -- the half kept and the half lent
 abbrev pub halves : Trees → Option (Trees × Trees)
 halves s = bind (cut s.cells) (λ p. Some (trees_of_cells p.0, trees_of_cells p.1))
 
 abbrev pub trees_kind : Kind Trees
-trees_kind = record { empty = trees_of_cells 0; whole = trees_of_cells (2 ^ 64 - 1); join = union; halve = halves; same = λ a b. (a.cells == b.cells) }
+trees_kind = record {
+  empty = trees_of_cells 0;
+  whole = trees_of_cells (2 ^ 64 - 1);
+  join = union;
+  halve = halves;
+  same = λ a b. (a.cells == b.cells);
+}

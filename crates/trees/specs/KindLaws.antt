@@ -9,6 +9,7 @@ use Rattle.std.specs.Int.Bits.{and_zero_r}
 use Rattle.std.proofs.Math.Dec.{eqb_refl}
 use Rattle.std.proofs.lemmas.Bool.{eq-eqb, ne_eqb, eqb-true, eqb-false, cond-true, cond-false, cases_eq, or_cases, or_parts, or_from, or_left, or_right}
 use Rattle.shares.specs.Kind.{Laws, bind}
+use Rattle.shares.proofs.Weighed.{turned}
 use Rattle.trees.specs.declared.trees.Trees.{Trees}
 use Rattle.trees.specs.Tree.{kept, lent, has_filled_cell}
 use Rattle.trees.specs.Cells.{trees_of_cells, tree_of, cells_of, tree, union, cut, halves, trees_kind}
@@ -78,17 +79,9 @@ left_some a b c s d e f g =
     ap (λ o. bind o (λ ab. union ab c)) (union_some a b (sum a b d) d refl)
     ∙ union_some (sum a b d) c s (apart_union a.cells b.cells c.cells d e f) g
 
--- from the right is from the left in the other order
-turn : (a b c : Trees) → bind (union b c) (λ bc. union a bc) ≡ bind (union b c) (λ bc. union bc a)
-turn a b c = go (union b c)
-  where
-    go : (o : Option Trees) → bind o (λ bc. union a bc) ≡ bind o (λ bc. union bc a)
-    go None = refl
-    go (Some x) = commutes a x
-
 associates : (a b c : Trees) → bind (union a b) (λ ab. union ab c) ≡ bind (union b c) (λ bc. union a bc)
 unfolding sum
-associates a b c = go (cases_eq (bit_and a.cells b.cells) 0) (cases_eq (bit_and a.cells c.cells) 0) (cases_eq (bit_and b.cells c.cells) 0) ∙ sym (turn a b c)
+associates a b c = go (cases_eq (bit_and a.cells b.cells) 0) (cases_eq (bit_and a.cells c.cells) 0) (cases_eq (bit_and b.cells c.cells) 0) ∙ sym (turned union commutes a b c)
   where
     swap : (x y : Trees) → bit_and x.cells y.cells ≡ 0 → bit_and y.cells x.cells ≡ 0
     swap x y e = and_comm y.cells x.cells ∙ e

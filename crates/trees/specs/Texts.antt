@@ -1,9 +1,11 @@
--- A text tells its tree, and the text of 64 cells has at most 190 bytes.
+-- A text tells its tree, and is short.
 -- A proof, which nobody need read: it stands in specs/ because the implementation names it, and no contract cites it.
 use Rattle.std.specs.Prelude.{IsAscii, ◌≡◌, ℕ, zero, suc, ◌+◌, ◌/◌, ◌%◌, ◌^◌, ◌≤◌, true, false, List, [], ◌∷◌, ◌++◌, length, refl}
 use Rattle.std.proofs.Common.{ap₂, append_assoc, arith, length-append}
 use Rattle.std.proofs.lemmas.Str.{IsAscii-append}
 use Rattle.std.proofs.lemmas.Str.Ascii.{IsAscii-nil, IsAscii-cons}
+use Rattle.shares.specs.Text.{Lacks}
+use Rattle.shares.proofs.Lines.{lacks-append}
 use Rattle.trees.specs.Tree.{Tree, leaf, node, fold, text}
 use Rattle.trees.specs.Cells.{span, tree_of}
 
@@ -54,3 +56,11 @@ text_ascii (leaf true) = IsAscii-cons 49 [] (omega arith) IsAscii-nil
 text_ascii (leaf false) = IsAscii-cons 48 [] (omega arith) IsAscii-nil
 text_ascii (node l r) =
     IsAscii-cons 40 _ (omega arith) (IsAscii-append (text l) _ (text_ascii l) (IsAscii-append (text r) _ (text_ascii r) (IsAscii-cons 41 [] (omega arith) IsAscii-nil)))
+
+-- and has no line break
+pub text_on_a_line : (t : Tree) → Lacks 10 (text t)
+text_on_a_line (leaf true) = ((λ e. omega (arith, e)), tt)
+text_on_a_line (leaf false) = ((λ e. omega (arith, e)), tt)
+text_on_a_line (node l r) =
+    let end : Lacks 10 (41 ∷ []) = ((λ e. omega (arith, e)), tt) in
+    ((λ e. omega (arith, e)), lacks-append 10 (text l) _ (text_on_a_line l) (lacks-append 10 (text r) _ (text_on_a_line r) end))

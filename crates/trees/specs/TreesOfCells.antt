@@ -9,42 +9,34 @@ use Rattle.std.proofs.Math.Arith.{mul_pred, digits_div, digits_mod}
 use Rattle.trees.specs.Tree.{Tree, leaf, node, fold, lower, upper, ◌⊔◌, ◌⊓◌}
 use Rattle.trees.specs.Cells.{span, filled, tree_of, cells_of}
 
-pub lower_fold : (l r : Tree) → lower (fold l r) ≡ l
-lower_fold (leaf true) (leaf true) = refl
-lower_fold (leaf true) (leaf false) = refl
-lower_fold (leaf true) (node a b) = refl
-lower_fold (leaf false) (leaf true) = refl
-lower_fold (leaf false) (leaf false) = refl
-lower_fold (leaf false) (node a b) = refl
-lower_fold (node a b) r = refl
-
-pub upper_fold : (l r : Tree) → upper (fold l r) ≡ r
-upper_fold (leaf true) (leaf true) = refl
-upper_fold (leaf true) (leaf false) = refl
-upper_fold (leaf true) (node a b) = refl
-upper_fold (leaf false) (leaf true) = refl
-upper_fold (leaf false) (leaf false) = refl
-upper_fold (leaf false) (node a b) = refl
-upper_fold (node a b) r = refl
+-- the halves of a folded pair are the pair
+fold_halves : (l r : Tree) → (lower (fold l r) ≡ l) × (upper (fold l r) ≡ r)
+fold_halves (leaf true) (leaf true) = (refl, refl)
+fold_halves (leaf true) (leaf false) = (refl, refl)
+fold_halves (leaf true) (node a b) = (refl, refl)
+fold_halves (leaf false) (leaf true) = (refl, refl)
+fold_halves (leaf false) (leaf false) = (refl, refl)
+fold_halves (leaf false) (node a b) = (refl, refl)
+fold_halves (node a b) r = (refl, refl)
 
 -- both operations go through the fold
 pub union_fold : (l r a b : Tree) → ◌⊔◌ (fold l r) (fold a b) ≡ fold (◌⊔◌ l a) (◌⊔◌ r b)
-union_fold l r a b = go l r ∙ ap₂ (λ x y. fold (◌⊔◌ l x) (◌⊔◌ r y)) (lower_fold a b) (upper_fold a b)
+union_fold l r a b = go l r ∙ ap₂ (λ x y. fold (◌⊔◌ l x) (◌⊔◌ r y)) (fold_halves a b).0 (fold_halves a b).1
   where
     go : (l r : Tree) → ◌⊔◌ (fold l r) (fold a b) ≡ fold (◌⊔◌ l (lower (fold a b))) (◌⊔◌ r (upper (fold a b)))
     go (leaf true) (leaf true) = refl
     go (leaf true) (leaf false) = refl
     go (leaf true) (node c d) = refl
     go (leaf false) (leaf true) = refl
-    go (leaf false) (leaf false) = sym (ap₂ fold (lower_fold a b) (upper_fold a b))
+    go (leaf false) (leaf false) = sym (ap₂ fold (fold_halves a b).0 (fold_halves a b).1)
     go (leaf false) (node c d) = refl
     go (node c d) t = refl
 
 pub overlap_fold : (l r a b : Tree) → ◌⊓◌ (fold l r) (fold a b) ≡ fold (◌⊓◌ l a) (◌⊓◌ r b)
-overlap_fold l r a b = go l r ∙ ap₂ (λ x y. fold (◌⊓◌ l x) (◌⊓◌ r y)) (lower_fold a b) (upper_fold a b)
+overlap_fold l r a b = go l r ∙ ap₂ (λ x y. fold (◌⊓◌ l x) (◌⊓◌ r y)) (fold_halves a b).0 (fold_halves a b).1
   where
     go : (l r : Tree) → ◌⊓◌ (fold l r) (fold a b) ≡ fold (◌⊓◌ l (lower (fold a b))) (◌⊓◌ r (upper (fold a b)))
-    go (leaf true) (leaf true) = sym (ap₂ fold (lower_fold a b) (upper_fold a b))
+    go (leaf true) (leaf true) = sym (ap₂ fold (fold_halves a b).0 (fold_halves a b).1)
     go (leaf true) (leaf false) = refl
     go (leaf true) (node c d) = refl
     go (leaf false) (leaf true) = refl

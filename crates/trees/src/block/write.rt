@@ -6,6 +6,7 @@ ghost use Rattle.trees.specs.Cells.{tree_of};
 ghost use Rattle.trees.specs.Tree.{text};
 
 use super::Block;
+use shares::LONGEST_TEXT;
 
 impl Block {
     // Writes the text from `at` on, and answers where it ends.
@@ -43,9 +44,9 @@ impl Block {
     }
 }
 
-// Writes the text of some cells at the front of a space, and answers its length. By itself so that a wrong call of it is
-// refused where it stands, and not in its proof.
-pub(crate) fn write_cells(cells: u64, space: &mut [u8; 190]) -> usize
+// Writes the text of some cells at the front of a space, and answers its length. It is a function of its own, so that a wrong
+// call of it is refused where it stands.
+pub(crate) fn write_cells(cells: u64, space: &mut [u8; LONGEST_TEXT]) -> usize
     ensures length { result ≡ length (text (tree_of 6 cells)) }
     ensures bytes { space.new ≡ in_front (text (tree_of 6 cells)) space.old }
 {
