@@ -67,7 +67,7 @@ module _ {S : Type 0} where
 
   -- all but the objections, of a layer: it is one deeper
   abbrev pub deeper : Core S → Core S
-  deeper c = record { roll = c.roll; issued = c.issued; today = c.today; capacity = c.capacity; depth = c.depth + 1 }
+  deeper c = record c { depth = c.depth + 1 }
 
   -- What a layer stands for over an office that stands for s. What it objects to itself it tells by the roll and today.
   abbrev pub layered : Own S → State S → State S

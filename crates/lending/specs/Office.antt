@@ -44,13 +44,13 @@ module _ {S : Type 0} where
 
   -- a state with one thing changed
   abbrev pub with_roll : List (Lease S) → State S → State S
-  with_roll roll s = record { core = record { roll = roll; issued = s.core.issued; today = s.core.today; capacity = s.core.capacity; depth = s.core.depth }; objections = s.objections }
+  with_roll roll s = record s { core = record (s.core) { roll = roll } }
 
   abbrev pub with_issued : ℕ → State S → State S
-  with_issued n s = record { core = record { roll = s.core.roll; issued = n; today = s.core.today; capacity = s.core.capacity; depth = s.core.depth }; objections = s.objections }
+  with_issued n s = record s { core = record (s.core) { issued = n } }
 
   abbrev pub with_today : ℕ → State S → State S
-  with_today d s = record { core = record { roll = s.core.roll; issued = s.core.issued; today = d; capacity = s.core.capacity; depth = s.core.depth }; objections = s.objections }
+  with_today d s = record s { core = record (s.core) { today = d } }
 
   -- the next number is issued to a new lease, which stands last
   abbrev pub issue : Lease S → State S → State S

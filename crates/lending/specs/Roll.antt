@@ -62,13 +62,13 @@ module _ {S : Type 0} where
 
   -- a lease with one thing changed
   abbrev pub with_share : S → Lease S → Lease S
-  with_share s l = record { number = l.number; resource = l.resource; holder = l.holder; lender = l.lender; due = l.due; share = s }
+  with_share s l = record l { share = s }
 
   abbrev pub with_holder : ℕ → Lease S → Lease S
-  with_holder h l = record { number = l.number; resource = l.resource; holder = h; lender = l.lender; due = l.due; share = l.share }
+  with_holder h l = record l { holder = h }
 
   abbrev pub with_lender : ℕ → Lease S → Lease S
-  with_lender p l = record { number = l.number; resource = l.resource; holder = l.holder; lender = p; due = l.due; share = l.share }
+  with_lender p l = record l { lender = p }
 
   -- the roll with lease n changed by f
   abbrev pub change : ℕ → (Lease S → Lease S) → List (Lease S) → List (Lease S)
