@@ -10,7 +10,7 @@ use Rattle.lending.specs.Office.{Core, Refusal, State, issue, with_roll, with_to
 use Rattle.lending.specs.Outcome.{Call, Answer, Outcome, unless, need_live, need_halves, tell_at, and_then, answering}
 use Rattle.lending.specs.Roll.{find, live, change, close, lends, is_open, with_share, with_holder, plus, family}
 use Rattle.lending.specs.Above.{yields, downward, recall_all}
-use Rattle.lending.specs.Calls.{due_by, do_yield, do_set_day, first_lease, bad_due_day, unlike, after_delegate, after_yield, after_merge, numbers_out, rows_full, bad_day}
+use Rattle.lending.specs.Calls.{due_by, do_yield, do_set_day, first_lease, lent_lease, bad_due_day, unlike, after_delegate, after_yield, after_merge, numbers_out, rows_full, bad_day}
 use Rattle.lending.specs.Perform.{perform, Ends, Does}
 use Rattle.lending.specs.History.{Moment, Leads, yielded, merged, recalled, lapsed}
 use Rattle.lending.specs.Limits.{within_range}
@@ -152,7 +152,7 @@ module _ {S : Type 0} (K : Kind S) where
         end : (l : Lease S) (kept lent : S) → P (out₃ l kept lent)
         end l kept lent =
             let same = length-map s.core.roll (λ x. cond (eqb x.number l.number) (with_share kept x) x) in
-            let len = length-append (change l.number (with_share kept) s.core.roll) (record { number = s.core.issued + 1; resource = l.resource; holder = h; lender = l.number; due = d; share = lent } ∷ []) in
+            let len = length-append (change l.number (with_share kept) s.core.roll) (lent_lease (s.core.issued + 1) l h d lent ∷ []) in
             record { is = omega arith }
 
     counted_yield : (n : ℕ) → Counted s (yield n) (perform K s (yield n))

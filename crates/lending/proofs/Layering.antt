@@ -5,7 +5,7 @@ use mathlib.Core.Option as maybe
 use lib.ListN.{get_elem?}
 use Rattle.lending.specs.declared.lease.Lease.{Lease}
 use Rattle.shares.specs.Kind.{Kind}
-use Rattle.lending.specs.Office.{Refusal, Request, State, issue, with_roll, with_today}
+use Rattle.lending.specs.Office.{Refusal, State, issue, with_roll, with_today}
 use Rattle.lending.specs.Outcome.{Call, Answer, Outcome, refused_at, unless, unless_objected, need_live, need_halves, tell_at}
 use Rattle.lending.specs.Roll.{find, is_open, lends, change, with_holder}
 use Rattle.lending.specs.Perform.{perform, Ends}

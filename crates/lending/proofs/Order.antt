@@ -7,7 +7,7 @@ use native.Mathlib.Bridge.{le_prop}
 use Rattle.std.proofs.lemmas.Bool.{eqb-true, or_parts, not-false}
 use Rattle.lending.specs.declared.lease.Lease.{Lease}
 use Rattle.lending.specs.Roll.{Rising, find, change, close, relend, with_lender, with_share}
-use Rattle.lending.specs.Calls.{unlike}
+use Rattle.lending.specs.Calls.{unlike, lent_lease}
 use Rattle.lending.specs.Limits.{within_range, never}
 use Rattle.lending.specs.Orderly.{Ranged, Orderly}
 use Rattle.lending.proofs.Rolls.{mem_map, mem_keep, mem_close, rising_keep, rising_map, rising_last, rising_above, one_number, find_in}
@@ -177,12 +177,12 @@ module _ {S : Type 0} where
   orderly_so roll after is issued next h e f = ∥∥₁_elim h squash₁ (λ o. ∣ subst (λ (r : List (Lease S)). Orderly r next) (sym e) (f o) ∣₁)
 
   -- a lender keeps one share and lends another
-  pub orderly_lent : (n h d : ℕ) (x : Lease S) (v w : S) (roll : List (Lease S)) (issued : ℕ) → find roll n ≡ Some x → within_range h ≡ true → d ≤ never → d ≤ x.due → Orderly roll issued → Orderly (change n (with_share v) roll ++ (record { number = issued + 1; resource = x.resource; holder = h; lender = n; due = d; share = w } ∷ [])) (issued + 1)
+  pub orderly_lent : (n h d : ℕ) (x : Lease S) (v w : S) (roll : List (Lease S)) (issued : ℕ) → find roll n ≡ Some x → within_range h ≡ true → d ≤ never → d ≤ x.due → Orderly roll issued → Orderly (change n (with_share v) roll ++ (lent_lease (issued + 1) x h d w ∷ [])) (issued + 1)
   orderly_lent n h d x v w roll issued found ranged late by o =
       let f = find_in roll n x found in
       let e = f.1 in
       let i = o.within x f.0 in
-      orderly_last (change n (with_share v) roll) issued (record { number = issued + 1; resource = x.resource; holder = h; lender = n; due = d; share = w }) refl (omega arith)
+      orderly_last (change n (with_share v) roll) issued (lent_lease (issued + 1) x h d w) refl (omega arith)
       (λ p m q. let s = source roll n (with_share v) (λ l. record { number = refl; resource = refl; lender = refl; due = refl }) p m in
       let s₁ = s.2.number in let s₂ = s.2.due in
       let same : s.0 ≡ x = one_number 0 roll o.rising s.0 x s.1 f.0 (omega arith) in

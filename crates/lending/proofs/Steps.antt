@@ -11,7 +11,7 @@ use Rattle.lending.specs.Office.{Refusal, State, issue, with_roll, with_today}
 use Rattle.lending.specs.Outcome.{Call, Answer, Outcome, refused_at, unless, unless_objected, need_live, need_halves, tell_at, and_then, answering}
 use Rattle.lending.specs.Roll.{find, live, change, close, lends, is_open, with_share, with_holder, plus, family}
 use Rattle.lending.specs.Above.{yields, downward, recall_all}
-use Rattle.lending.specs.Calls.{due_by, do_yield, do_set_day, first_lease, bad_due_day, unlike, after_delegate, after_yield, after_merge, numbers_out, rows_full, bad_day}
+use Rattle.lending.specs.Calls.{due_by, do_yield, do_set_day, first_lease, lent_lease, bad_due_day, unlike, after_delegate, after_yield, after_merge, numbers_out, rows_full, bad_day}
 use Rattle.lending.specs.Perform.{perform}
 use Rattle.lending.specs.Limits.{within_range}
 use Rattle.lending.specs.Office.Request.{opening, delegating, assigning}
@@ -216,7 +216,7 @@ module _ {S : Type 0} (K : Kind S) (L : Laws K) where
             record {
               is = (
                 inv_lend K L I (lent_by K s (delegate p h d) (number (s.core.issued + 1)) lt) (λ n q. next_not n q (half_lent K s p)) l f.0 kept lent cut h d by (next_is (half_lent K s p) ∙ half),
-                moves_last (change l.number (with_share kept) s.core.roll) (record { number = s.core.issued + 1; resource = l.resource; holder = h; lender = l.number; due = d; share = lent }) refl (length-map s.core.roll (λ x. cond (eqb x.number l.number) (with_share kept x) x)) (λ n x. let y = source s.core.roll l.number (with_share kept) (λ z. record { number = refl; resource = refl; lender = refl; due = refl }) x.0 x.1 in (y.0, y.1, sym y.2.number ∙ x.2)),
+                moves_last (change l.number (with_share kept) s.core.roll) (lent_lease (s.core.issued + 1) l h d lent) refl (length-map s.core.roll (λ x. cond (eqb x.number l.number) (with_share kept x) x)) (λ n x. let y = source s.core.roll l.number (with_share kept) (λ z. record { number = refl; resource = refl; lender = refl; due = refl }) x.0 x.1 in (y.0, y.1, sym y.2.number ∙ x.2)),
               );
             }
 

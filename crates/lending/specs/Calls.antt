@@ -22,7 +22,13 @@ module _ {S : Type 0} where
 
   -- the house lends the whole
   abbrev pub first_lease : Kind S → ℕ → ℕ → ℕ → Lease S
-  first_lease K n resource holder = record { number = n; resource = resource; holder = holder; lender = 0; due = never; share = K.whole }
+  first_lease K n resource holder =
+      record { number = n; resource = resource; holder = holder; lender = 0; due = never; share = K.whole }
+
+  -- the lender p lends one half of its share
+  abbrev pub lent_lease : ℕ → Lease S → ℕ → ℕ → S → Lease S
+  lent_lease n p holder due lent =
+      record { number = n; resource = p.resource; holder = holder; lender = p.number; due = due; share = lent }
 
   abbrev pub do_open : Kind S → State S → ℕ → ℕ → Outcome S
   do_open K s resource holder =
@@ -42,7 +48,7 @@ module _ {S : Type 0} where
   -- the lender p keeps the one half, and the next number gets the other
   abbrev pub after_delegate : State S → Lease S → ℕ → ℕ → S → S → State S
   after_delegate s p holder due kept lent =
-      issue (record { number = s.core.issued + 1; resource = p.resource; holder = holder; lender = p.number; due = due; share = lent })
+      issue (lent_lease (s.core.issued + 1) p holder due lent)
       (with_roll (change p.number (with_share kept) s.core.roll) s)
 
   abbrev pub do_delegate : Kind S → State S → ℕ → ℕ → ℕ → Outcome S

@@ -1,5 +1,6 @@
 -- What every office stands for.
 use Rattle.std.specs.Prelude.{◌≡◌, ℕ, ◌+◌, List, [], ◌∷◌, ◌++◌, None, Option}
+use Rattle.shares.specs.Kind.{Kind}
 use Rattle.lending.specs.declared.lease.Lease.{Lease}
 
 -- Level 0 is the office called; each office that passes a refusal up adds 1.
@@ -37,6 +38,10 @@ module _ {S : Type 0} where
     pub no_leases : s.core.roll ≡ []
     pub none_issued : s.core.issued ≡ 0
     pub first_day : s.core.today ≡ 0
+
+  -- a row as it is before a ledger uses it
+  abbrev pub free_lease : Kind S → Lease S
+  free_lease K = record { number = 0; resource = 0; holder = 0; lender = 0; due = 0; share = K.empty }
 
   -- a ledger of so many rows as it is set up: an office without layers
   abbrev pub new_ledger : ℕ → State S
