@@ -17,9 +17,8 @@ module _ {S : Type 0} where
 
   -- what an office with these layers stands for after a call that ends so
   abbrev pub state_after : Layers S → Outcome S → State S → State S
-  state_after layers (refuses r) s = s
-  state_after layers (tells a) s = s
   state_after layers (grants a t) s = record t { objections = objections layers t.core.roll t.core.today }
+  state_after layers o s = s
 
   -- what it answers to some calls, the last first, and the state that they lead to
   abbrev pub play : Kind S → Layers S → State S → List Call → List (Moment S) × State S
