@@ -1,19 +1,47 @@
 -- Calls by cases: what every refusal has, and each outcome that checks let through, a call has.
-use Rattle.std.proofs.Common.{◌≡◌, ℕ, ◌+◌, Bool, true, false, cond, not, eqb, leb, List, [], ◌∷◌, length, Some, None, Option, refl, subst, arith}
+use Rattle.std.proofs.Common.{◌≡◌, ℕ, ◌+◌, Bool, true, false, cond, not, ◌||◌, eqb, leb, List, [], ◌∷◌, length, Some, None, Option, sym, refl, subst, subst₂, arith}
 use Rattle.std.specs.List.{filter, list_any}
+use Rattle.std.proofs.lemmas.Bool.{eqb-true, eqb-false, or_parts, not-false}
 use mathlib.Core.Option as maybe
 use lib.ListN.{get_elem?}
 use Rattle.lending.specs.declared.lease.Lease.{Lease}
 use Rattle.shares.specs.Kind.{Kind}
-use Rattle.lending.specs.Office.{Refusal, State, issue, with_roll, with_today}
+use Rattle.lending.specs.Office.{Core, Refusal, State, issue, with_roll, with_today}
 use Rattle.lending.specs.Office.Request.{opening, delegating, assigning}
 use Rattle.lending.specs.Limits.{within_range}
 use Rattle.lending.specs.Roll.{find, live, family, change, lends, is_open, with_holder}
-use Rattle.lending.specs.Outcome.{Outcome, refused_at, unless, unless_objected, need_live, need_halves, tell_at, and_then, answering}
-use Rattle.lending.specs.Outcome.Answer.{done, number, lease}
+use Rattle.lending.specs.Outcome.{Answer, Outcome, refused_at, unless, unless_objected, need_live, need_halves, tell_at, and_then, answering}
+use Rattle.lending.specs.Outcome.Answer.{done, number, lease, refused}
 use Rattle.lending.specs.Outcome.Outcome.{refuses, tells, grants}
 use Rattle.lending.specs.Calls.{do_open, do_delegate, do_yield, do_merge, do_assign, do_set_day, first_lease, after_delegate, after_yield, after_merge, bad_due_day, unlike, numbers_out, rows_full, bad_day, due_by}
+use Rattle.lending.specs.Perform.{Ends}
 use Rattle.lending.specs.Above.{yields, downward, recall_all, do_recall, do_hand_in, do_day}
+
+-- what a call answers and leaves
+module _ {S : Type 0} (R : Answer S → Core S → Type 0) (s : State S) where
+  abbrev pub IsLeft : Outcome S → Type 0
+  IsLeft (refuses r) = R (refused r) s.core
+  IsLeft (tells a) = R a s.core
+  IsLeft (grants a u) = R a u.core
+
+  pub record Leaves (o : Outcome S) : Type 0 where
+    pub is : IsLeft o
+
+  pub left : (o : Outcome S) → Leaves o → (a : Answer S) (t : State S) → Ends o s a t → R a t.core
+  left (refuses r) h a t e = subst₂ (λ (x : Answer S) (u : State S). R x u.core) (sym e.0) (sym e.1) h.is
+  left (tells x) h a t e = subst₂ (λ (y : Answer S) (u : State S). R y u.core) (sym e.0) (sym e.1) h.is
+  left (grants x u) h a t e = subst₂ R (sym e.0) (sym e.1) h.is
+
+-- two leases that merge
+pub alike : {S : Type 0} (x y : Lease S) → unlike x y ≡ false → (x.lender ≡ y.lender) × (x.lender ≡ 0 → ⊥) × (x.due ≡ y.due)
+alike x y e =
+    let p₁ = or_parts (not (eqb x.lender y.lender)) (eqb x.lender 0 || (not (eqb x.holder y.holder) || not (eqb x.due y.due))) e in
+    let p₂ = or_parts (eqb x.lender 0) (not (eqb x.holder y.holder) || not (eqb x.due y.due)) p₁.1 in
+    let p₃ = or_parts (not (eqb x.holder y.holder)) (not (eqb x.due y.due)) p₂.1 in (
+      eqb-true x.lender y.lender (not-false (eqb x.lender y.lender) p₁.0),
+      eqb-false x.lender 0 p₂.0,
+      eqb-true x.due y.due (not-false (eqb x.due y.due) p₃.1),
+    )
 
 -- no check fails
 abbrev pub Passed : List (Bool × ℕ) → Type 0

@@ -1,22 +1,20 @@
 -- The leases that calls close by their answers were live when the calls began, or were issued by them, and are live no more.
 -- It is so of every state, also of one that no calls reach.
-use Rattle.std.proofs.Common.{◌≡◌, ℕ, ◌+◌, ◌≤◌, Bool, true, false, cond, not, eqb, List, [], ◌∷◌, length, Some, sym, refl, ap, subst, subst₂, arith, length-append}
+use Rattle.std.proofs.Common.{◌≡◌, ℕ, ◌+◌, ◌≤◌, Bool, true, false, cond, not, eqb, List, [], ◌∷◌, length, Some, sym, refl, ap, subst, arith, length-append}
 use lib.ListN.{length-map}
 use Rattle.lending.specs.declared.lease.Lease.{Lease}
 use Rattle.shares.specs.Kind.{Kind}
-use Rattle.lending.specs.Office.{Core, State}
+use Rattle.lending.specs.Office.{State}
 use Rattle.lending.specs.Outcome.{Call, Answer, Outcome}
 use Rattle.lending.specs.Roll.{find, change, close, lends, with_share, with_holder, plus}
 use Rattle.lending.specs.Calls.{first_lease, lent_lease, after_yield}
-use Rattle.lending.specs.Perform.{perform, Ends, Does}
+use Rattle.lending.specs.Perform.{perform, Does}
 use Rattle.lending.specs.History.{Moment, Leads, yielded, merged, recalled, lapsed}
 use Rattle.lending.specs.Outcome.Call.{open_resource, delegate, yield, merge, assign, new_day, ask_lease_at, ask_lease, recall, day, hand_in}
-use Rattle.lending.specs.Outcome.Answer.{refused}
-use Rattle.lending.specs.Outcome.Outcome.{refuses, tells, grants}
 use Rattle.lending.proofs.Rolls.{find_in}
 use Rattle.lending.proofs.Merging.{relent}
 use Rattle.lending.proofs.Yielding.{give}
-use Rattle.lending.proofs.Cases.{open_case, delegate_case, yield_case, merge_case, assign_case, set_day_case, lease_at_case, lease_case, recall_case, hand_in_case, day_case}
+use Rattle.lending.proofs.Cases.{Leaves, left, open_case, delegate_case, yield_case, merge_case, assign_case, set_day_case, lease_at_case, lease_case, recall_case, hand_in_case, day_case}
 use Rattle.lending.proofs.Steps.{closes}
 
 module _ {S : Type 0} where
@@ -45,13 +43,8 @@ module _ {S : Type 0} (K : Kind S) where
   abbrev pub Counts : State S → ℕ → List (Lease S) → ℕ → Type 0
   Counts s k roll issued = k + length roll + s.core.issued ≤ length s.core.roll + issued
 
-  abbrev IsCounted : State S → Call → Outcome S → Type 0
-  IsCounted s c (refuses r) = Counts s (closes {S = S} c (refused r)) s.core.roll s.core.issued
-  IsCounted s c (tells a) = Counts s (closes c a) s.core.roll s.core.issued
-  IsCounted s c (grants a u) = Counts s (closes c a) u.core.roll u.core.issued
-
-  record Counted (s : State S) (c : Call) (o : Outcome S) : Type 0 where
-    is : IsCounted s c o
+  abbrev Counted : State S → Call → Outcome S → Type 0
+  Counted s c o = Leaves (λ a k. Counts s (closes c a) k.roll k.issued) s o
 
   module _ (s : State S) where
     -- what k yields from s on leave: k leases fewer
@@ -112,14 +105,9 @@ module _ {S : Type 0} (K : Kind S) where
     -- the other questions
     counted c = record { is = omega arith }
 
-  counts : (s t : State S) (c : Call) (a : Answer S) (o : Outcome S) → Counted s c o → Ends o s a t → Counts s (closes c a) t.core.roll t.core.issued
-  counts s t c a (refuses r) g e = subst₂ (λ (x : Answer S) (u : State S). Counts s (closes c x) u.core.roll u.core.issued) (sym e.0) (sym e.1) g.is
-  counts s t c a (tells x) g e = subst₂ (λ (y : Answer S) (u : State S). Counts s (closes c y) u.core.roll u.core.issued) (sym e.0) (sym e.1) g.is
-  counts s t c a (grants x u) g e = subst (λ (y : Answer S). Counts s (closes c y) t.core.roll t.core.issued) (sym e.0) (subst (λ (k : Core S). Counts s (closes c x) k.roll k.issued) (sym e.1) g.is)
-
   -- every call
   pub call_counts : (s : State S) (c : Call) (a : Answer S) (t : State S) → Does K s c a t → Counts s (closes c a) t.core.roll t.core.issued
-  call_counts s c a t does = counts s t c a (perform K s c) (counted s c) does
+  call_counts s c a t does = left (λ x k. Counts s (closes c x) k.roll k.issued) s (perform K s c) (counted s c) a t does
 
   -- every list of calls
   pub list_counts : (s t : State S) (ms : List (Moment S)) → Leads K s ms t → Counts s (yielded ms + merged ms + recalled ms + lapsed ms) t.core.roll t.core.issued

@@ -1,16 +1,17 @@
 -- Every granted call keeps the order of the roll.
-use Rattle.std.proofs.Common.{◌≡◌, ℕ, ◌+◌, ◌<◌, ◌≤◌, Bool, true, false, cond, not, ◌||◌, eqb, ◌⊎◌, List, [], ◌∷◌, ◌++◌, map, Some, sym, refl, ap, ◌∙◌, subst, inl, inr, ⊎_elim, arith}
+use Rattle.std.proofs.Common.{◌≡◌, ℕ, ◌+◌, ◌<◌, ◌≤◌, Bool, true, false, cond, not, eqb, ◌⊎◌, List, [], ◌∷◌, ◌++◌, map, Some, sym, refl, ap, ◌∙◌, subst, inl, inr, ⊎_elim, arith}
 use Rattle.std.specs.List.{filter}
 use mathlib.Core.Logic.{∥∥₁_elim}
 use mathlib.Core.List.{Memᴰ}
 use native.Mathlib.Bridge.{le_prop}
-use Rattle.std.proofs.lemmas.Bool.{eqb-true, or_parts, not-false}
+use Rattle.std.proofs.lemmas.Bool.{eqb-true}
 use Rattle.lending.specs.declared.lease.Lease.{Lease}
 use Rattle.lending.specs.Roll.{Rising, find, change, close, relend, with_lender, with_share}
 use Rattle.lending.specs.Calls.{unlike, lent_lease}
 use Rattle.lending.specs.Limits.{within_range, never}
 use Rattle.lending.specs.Orderly.{Ranged, Orderly}
 use Rattle.lending.proofs.Rolls.{mem_map, mem_keep, mem_close, rising_keep, rising_map, rising_last, rising_above, one_number, find_in}
+use Rattle.lending.proofs.Cases.{alike}
 use Rattle.lending.proofs.Changes.{mem_last, source}
 
 module _ {S : Type 0} where
@@ -194,8 +195,4 @@ module _ {S : Type 0} where
   orderly_first l roll issued e z r o = orderly_last roll issued l e (omega arith) (λ p m q. let a = rising_above 0 roll o.rising p m in absurd (omega arith)) r o
 
   pub alike_due : (x y : Lease S) → unlike x y ≡ false → x.due ≡ y.due
-  alike_due x y e =
-      let p₁ = or_parts (not (eqb x.lender y.lender)) (eqb x.lender 0 || (not (eqb x.holder y.holder) || not (eqb x.due y.due))) e in
-      let p₂ = or_parts (eqb x.lender 0) (not (eqb x.holder y.holder) || not (eqb x.due y.due)) p₁.1 in
-      let p₃ = or_parts (not (eqb x.holder y.holder)) (not (eqb x.due y.due)) p₂.1 in
-      eqb-true x.due y.due (not-false (eqb x.due y.due) p₃.1)
+  alike_due x y e = (alike x y e).2

@@ -1,9 +1,9 @@
 -- Every call keeps the invariant, and closes as many leases as it answers.
-use Rattle.std.proofs.Common.{◌≡◌, ℕ, ◌+◌, ◌<◌, ◌≤◌, false, cond, not, ◌||◌, eqb, ltb, leb, List, [], ◌∷◌, ◌++◌, length, Some, Option, sym, refl, ap, ◌∙◌, ap₂, inl, inr, ⊎_elim, arith, length-append}
+use Rattle.std.proofs.Common.{◌≡◌, ℕ, ◌+◌, ◌<◌, ◌≤◌, false, cond, ◌||◌, eqb, ltb, leb, List, [], ◌∷◌, ◌++◌, length, Some, Option, sym, refl, ap, ◌∙◌, ap₂, inl, inr, ⊎_elim, arith, length-append}
 use Rattle.std.specs.List.{filter}
 use mathlib.Core.List.{Memᴰ}
 use lib.ListN.{length-map}
-use Rattle.std.proofs.lemmas.Bool.{eqb-true, eqb-false, eq-eqb, ne_eqb, cond-true, cond-false, or_parts, leb-false, ltb-false, not-false}
+use Rattle.std.proofs.lemmas.Bool.{eqb-false, eq-eqb, ne_eqb, cond-true, cond-false, or_parts, leb-false, ltb-false}
 use Rattle.lending.specs.declared.lease.Lease.{Lease}
 use Rattle.shares.specs.Kind.{Kind, Laws, bind}
 use Rattle.lending.specs.Office.{State, with_today}
@@ -13,8 +13,7 @@ use Rattle.lending.specs.Above.{downward}
 use Rattle.lending.specs.Calls.{due_by, first_lease, lent_lease, after_yield}
 use Rattle.lending.specs.Perform.{perform}
 use Rattle.lending.specs.Outcome.Call.{open_resource, delegate, yield, merge, assign, new_day, ask_lease_at, ask_lease, recall, day, hand_in}
-use Rattle.lending.specs.Outcome.Answer.{done, number, refused}
-use Rattle.lending.specs.Outcome.Outcome.{refuses, tells, grants}
+use Rattle.lending.specs.Outcome.Answer.{done, number}
 use Rattle.lending.specs.History.{tally, none, one_if_done, its_number, closing, lent_by, lent_both, half_lent}
 use Rattle.shares.proofs.Sums.{plus?}
 use Rattle.lending.proofs.Joins.{plus_then}
@@ -24,7 +23,7 @@ use Rattle.lending.proofs.Changes.{source, mem_last, last_mem}
 use Rattle.lending.proofs.Opening.{inv_open, inv_lend}
 use Rattle.lending.proofs.Yielding.{give, give_keeps, inv_yield, inv_assign}
 use Rattle.lending.proofs.Merging.{relent, relent_is, inv_merge}
-use Rattle.lending.proofs.Cases.{open_case, delegate_case, yield_case, merge_case, assign_case, set_day_case, lease_at_case, lease_case, recall_case, hand_in_case, day_case}
+use Rattle.lending.proofs.Cases.{Leaves, alike, open_case, delegate_case, yield_case, merge_case, assign_case, set_day_case, lease_at_case, lease_case, recall_case, hand_in_case, day_case}
 use Rattle.lending.proofs.Numbers.{Has, Moves, stays, length_close}
 
 -- how many leases a call with this answer has closed
@@ -36,13 +35,8 @@ module _ {S : Type 0} (K : Kind S) (L : Laws K) where
   abbrev pub Step : State S → (ℕ → Option S) → Call → Answer S → List (Lease S) → ℕ → Type 0
   Step s lt c a roll issued = Inv K roll issued (lent_by K s c a lt) × Moves s.core.roll s.core.issued roll issued (closes c a)
 
-  abbrev pub IsGood : State S → (ℕ → Option S) → Call → Outcome S → Type 0
-  IsGood s lt c (refuses r) = Step s lt c (refused r) s.core.roll s.core.issued
-  IsGood s lt c (tells a) = Step s lt c a s.core.roll s.core.issued
-  IsGood s lt c (grants a u) = Step s lt c a u.core.roll u.core.issued
-
-  pub record Good (s : State S) (lt : ℕ → Option S) (c : Call) (o : Outcome S) : Type 0 where
-    pub is : IsGood s lt c o
+  abbrev pub Good : State S → (ℕ → Option S) → Call → Outcome S → Type 0
+  Good s lt c o = Leaves (λ a k. Step s lt c a k.roll k.issued) s o
 
   -- k leases were closed between s and u, and nothing was issued
   pub record Closed (s u : State S) (k : ℕ) : Type 0 where
@@ -124,9 +118,7 @@ module _ {S : Type 0} (K : Kind S) (L : Laws K) where
         let g = find_in s.core.roll b y fy in
         let xn = f.1 in let yn = g.1 in
         let less : x.number < y.number = let q = leb-false b a e₁ in omega arith in
-        let p₁ = or_parts (not (eqb x.lender y.lender)) (eqb x.lender 0 || (not (eqb x.holder y.holder) || not (eqb x.due y.due))) e₂ in
-        let p₂ = or_parts (eqb x.lender 0) (not (eqb x.holder y.holder) || not (eqb x.due y.due)) p₁.1 in
-        let p₃ = or_parts (not (eqb x.holder y.holder)) (not (eqb x.due y.due)) p₂.1 in
+        let like = alike x y e₂ in
         let lt' : ℕ → Option S = lent_by K s (merge a b) done lt in
         let got : lt' x.number ≡ plus? K (lt x.number) (lt y.number) = cond-true (eqb a x.number) (lent_both K lt a b) (lt x.number) (eq-eqb a x.number (sym xn)) ∙ plus_then K (lt a) (lt b) ∙ ap₂ (λ (m n : ℕ). plus? K (lt m) (lt n)) (sym xn) (sym yn) in
         let len₁ = length-map (change x.number (with_share (plus K x.share y.share)) (close y.number s.core.roll)) (relent x.number y.number) in
@@ -134,7 +126,7 @@ module _ {S : Type 0} (K : Kind S) (L : Laws K) where
         let len₃ = length_close 0 s.core.roll I.rising y g.0 in
         record {
           is = (
-            inv_merge K L I x y f.0 g.0 less (eqb-true x.lender y.lender (not-false (eqb x.lender y.lender) p₁.0)) (eqb-false x.lender 0 p₂.0) (eqb-true x.due y.due (not-false (eqb x.due y.due) p₃.1)) lt' got
+            inv_merge K L I x y f.0 g.0 less like.0 like.1 like.2 lt' got
                 (λ n h. cond-false (eqb a n) (lent_both K lt a b) (lt n) (ne_eqb a n (λ z. h (sym z ∙ sym xn)))),
             record {
               old = λ n z. let m = mem_map (relent x.number y.number) (change x.number (with_share (plus K x.share y.share)) (close y.number s.core.roll)) z.0 z.1 in
