@@ -8,14 +8,13 @@ use Rattle.lending.specs.declared.lease.Lease.{Lease}
 use Rattle.shares.specs.Kind.{Kind}
 use Rattle.lending.specs.Office.{Core, State, with_roll, with_today}
 use Rattle.lending.specs.Outcome.{Outcome, refused_at, unless, need_live, and_then, answering}
-use Rattle.lending.specs.Roll.{find, change, close, lends, family, with_share}
+use Rattle.lending.specs.Roll.{find, change, close, lends, family, with_share, gaining}
 use Rattle.lending.specs.Above.{yields, downward}
 use Rattle.lending.specs.Calls.{do_yield, do_set_day, after_yield, due_by, bad_day}
 use Rattle.lending.specs.Limits.{last_day}
 use Rattle.lending.specs.Perform.{perform}
 use Rattle.lending.specs.Outcome.Call.{day}
 use Rattle.lending.specs.Outcome.Answer.{done, number}
-use Rattle.lending.specs.Effects.{gaining}
 use Rattle.lending.specs.Outcome.Outcome.{refuses, grants}
 use Rattle.lending.proofs.Rolls.{Rising, rising_above, in_find, absent_found, some_is_true, some_is_none, mem_map, map_mem, mem_keep, keep_mem, rising_keep, mem_close, close_mem}
 use Rattle.lending.proofs.Families.{Low, NoZero, in_family, family_step, above_lower}

@@ -1,7 +1,7 @@
 -- Lists of calls to an office: what each lease was lent, and what was closed by which calls.
 use Rattle.std.specs.Prelude.{◌≡◌, ℕ, ◌+◌, if◌then◌else◌, not, ◌&&◌, List, [], ◌∷◌, Some, None, Option, ◌==◌}
 use Rattle.shares.specs.Kind.{Kind, bind}
-use Rattle.lending.specs.Office.{State}
+use Rattle.lending.specs.Office.{State, SetUp}
 use Rattle.lending.specs.Roll.{find, live}
 use Rattle.lending.specs.Outcome.{Call, Answer}
 use Rattle.lending.specs.Outcome.Call.{open_resource, delegate, yield, merge, recall, day, hand_in}
@@ -18,6 +18,7 @@ pub record Moment (S : Type 0) : Type 0 where
 pub data Closing : Type 0 where
   by_yield by_merge by_recall by_day by_none : Closing
 
+-- recalls and hand-ins close by recalls, and a call that is not named here closes nothing
 abbrev pub closing : Call → Closing
 closing (yield n) = by_yield
 closing (merge a b) = by_merge
@@ -31,6 +32,10 @@ module _ {S : Type 0} where
   abbrev pub Leads : Kind S → State S → List (Moment S) → State S → Type 0
   Leads K start [] t = t ≡ start
   Leads K start (m ∷ ms) t = Leads K start ms m.before × Does K m.before m.call m.answer t
+
+  -- However s was reached: so it is of every list of calls that led to s from an office that was set up empty.
+  abbrev pub HoweverReached : Kind S → State S → (List (Moment S) → Type 0) → Type 0
+  HoweverReached K s Of = (start : State S) → SetUp start → (ms : List (Moment S)) → Leads K start ms s → Of ms
 
   -- of each state to which a call of the list came
   abbrev pub EachCameTo : (State S → Type 0) → List (Moment S) → Type 0
@@ -55,17 +60,19 @@ module _ {S : Type 0} where
   abbrev pub lent_both : Kind S → (ℕ → Option S) → ℕ → ℕ → Option S
   lent_both K earlier a b = bind (earlier a) (λ x. bind (earlier b) (λ y. K.join x y))
 
-  -- What lease n was lent after the call, by what each lease was lent before it. A new lease was lent the whole or the half,
-  -- and a lease into which another was merged what both were; nothing else changes what a lease was lent.
+  -- What lease n was lent after the call, by what each lease was lent before it. A new lease was lent the whole or a half,
+  -- and a lease into which another was merged was lent what both were. No other call changes what a lease was lent.
   abbrev pub lent_by : Kind S → State S → Call → Answer S → (ℕ → Option S) → ℕ → Option S
   lent_by K s (open_resource r h) answer earlier n =
       if_number answer (λ k. if k == n then Some K.whole else earlier n) (earlier n)
   lent_by K s (delegate p h d) answer earlier n =
       if_number answer (λ k. if k == n then half_lent K s p else earlier n) (earlier n)
-  lent_by K s (merge a b) answer earlier n = if_done answer (if a == n then lent_both K earlier a b else earlier n) (earlier n)
+  lent_by K s (merge a b) answer earlier n =
+      if_done answer (if a == n then lent_both K earlier a b else earlier n) (earlier n)
   lent_by K s c answer earlier n = earlier n
 
-  -- What lease n was lent: the whole, or the half that delegate lent, joined with what each lease merged into it was lent.
+  -- What lease n was lent: the whole, or the half that delegate lent, joined with what each lease merged into it was
+  -- lent.
   abbrev pub lent : Kind S → List (Moment S) → ℕ → Option S
   lent K [] n = None
   lent K (m ∷ ms) n = lent_by K m.before m.call m.answer (lent K ms) n
@@ -78,6 +85,7 @@ module _ {S : Type 0} where
   tally yields merges recalls days by_day a = days a
   tally yields merges recalls days by_none a = 0
 
+  -- nothing
   abbrev pub none : Answer S → ℕ
   none a = 0
 
@@ -89,6 +97,7 @@ module _ {S : Type 0} where
   abbrev pub its_number : Answer S → ℕ
   its_number a = if_number a (λ n. n) 0
 
+  -- a tally over a list of calls
   abbrev pub summed : (Closing → Answer S → ℕ) → List (Moment S) → ℕ
   summed f [] = 0
   summed f (m ∷ ms) = f (closing m.call) m.answer + summed f ms

@@ -62,7 +62,7 @@ module _ {S : Type 0} where
   abbrev pub deeper : Core S → Core S
   deeper c = record c { depth = c.depth + 1 }
 
-  -- What a layer stands for over an office that stands for s. What it objects to itself it tells by the roll and today.
+  -- What a layer stands for over an office that stands for s. Its own objections follow from the roll and today.
   abbrev pub layered : Own S → State S → State S
   layered mine s =
       record {
@@ -83,4 +83,6 @@ module _ {S : Type 0} where
   -- A layer is an office: where it has no objection of its own, what the office below does, passed up, is what an office
   -- does that stands for the layered state.
   abbrev pub LayerIsOffice : Kind S → Type 0
-  LayerIsOffice K = (mine : Own S) (s t : State S) (c : Call) (a : Answer S) → Passes (mine.objects s.core.roll s.core.today) c → Does K s c a t → Does K (layered mine s) c (passed_up a) (layered mine t)
+  LayerIsOffice K = (mine : Own S) (s t : State S) (c : Call) (a : Answer S)
+      → Passes (mine.objects s.core.roll s.core.today) c → Does K s c a t
+      → Does K (layered mine s) c (passed_up a) (layered mine t)

@@ -45,15 +45,21 @@ module _ {S : Type 0} where
 
   -- a ledger of so many rows as it is set up: an office without layers
   abbrev pub new_ledger : ℕ → State S
-  new_ledger rows = record { core = record { roll = []; issued = 0; today = 0; capacity = rows; depth = 0 }; objections = λ q. None }
+  new_ledger rows =
+      record {
+        core = record { roll = []; issued = 0; today = 0; capacity = rows; depth = 0 };
+        objections = λ q. None;
+      }
 
-  -- a state with one thing changed
+  -- A state with one thing changed: with another roll,
   abbrev pub with_roll : List (Lease S) → State S → State S
   with_roll roll s = record s { core = record (s.core) { roll = roll } }
 
+  -- with another count of numbers issued,
   abbrev pub with_issued : ℕ → State S → State S
   with_issued n s = record s { core = record (s.core) { issued = n } }
 
+  -- and with another day.
   abbrev pub with_today : ℕ → State S → State S
   with_today d s = record s { core = record (s.core) { today = d } }
 
