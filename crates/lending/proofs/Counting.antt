@@ -6,14 +6,13 @@ use Rattle.lending.specs.declared.lease.Lease.{Lease}
 use Rattle.shares.specs.Kind.{Kind}
 use Rattle.lending.specs.Office.{State}
 use Rattle.lending.specs.Outcome.{Call, Answer, Outcome}
-use Rattle.lending.specs.Roll.{find, change, close, lends, with_share, with_holder, plus}
+use Rattle.lending.specs.Roll.{find, change, close, lends, with_share, with_holder, plus, gaining}
 use Rattle.lending.specs.Calls.{first_lease, lent_lease, after_yield}
 use Rattle.lending.specs.Perform.{perform, Does}
 use Rattle.lending.specs.History.{Moment, Leads, yielded, merged, recalled, lapsed}
 use Rattle.lending.specs.Outcome.Call.{open_resource, delegate, yield, merge, assign, new_day, ask_lease_at, ask_lease, recall, day, hand_in}
 use Rattle.lending.proofs.Rolls.{find_in}
 use Rattle.lending.proofs.Merging.{relent}
-use Rattle.lending.proofs.Yielding.{give}
 use Rattle.lending.proofs.Cases.{Leaves, left, open_case, delegate_case, yield_case, merge_case, assign_case, set_day_case, lease_at_case, lease_case, recall_case, hand_in_case, day_case}
 use Rattle.lending.proofs.Steps.{closes}
 
@@ -53,7 +52,7 @@ module _ {S : Type 0} (K : Kind S) where
 
     one_more : (k : ℕ) (t : State S) → Fewer k t → (n : ℕ) (l : Lease S) → find t.core.roll n ≡ Some l → lends t.core.roll n ≡ false → Fewer (k + 1) (after_yield K t l)
     one_more k t y n l found e =
-        let len = length-map (close l.number t.core.roll) (λ x. cond (eqb x.number l.lender) (give K l x) x) in
+        let len = length-map (close l.number t.core.roll) (λ x. cond (eqb x.number l.lender) (gaining K l.share x) x) in
         let c = closed t.core.roll n l found in
         let f = y.1 in
         (y.0, omega arith)

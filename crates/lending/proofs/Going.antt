@@ -7,7 +7,7 @@ use Rattle.lending.specs.declared.lease.Lease.{Lease}
 use Rattle.shares.specs.Kind.{Kind}
 use Rattle.lending.specs.Office.{Core, State, with_today}
 use Rattle.lending.specs.Orderly.{Orderly}
-use Rattle.lending.specs.Roll.{find, live, close, lends, family}
+use Rattle.lending.specs.Roll.{find, live, close, lends, family, gaining}
 use Rattle.lending.specs.Outcome.{Answer, Outcome, unless, need_live, and_then, answering}
 use Rattle.lending.specs.Outcome.Answer.{done, number}
 use Rattle.lending.specs.Outcome.Call.{yield, new_day, day}
@@ -18,7 +18,6 @@ use Rattle.lending.specs.Perform.{Ends, Does}
 use Rattle.lending.proofs.Rolls.{find_in, rising_above}
 use Rattle.lending.proofs.Families.{Low}
 use Rattle.lending.proofs.Order.{orderly_rises, orderly_change, orderly_close, Stays}
-use Rattle.lending.proofs.Yielding.{give}
 use Rattle.lending.proofs.Sweeping.{Sweeps, family_granted, due_granted, day_set, day_performs}
 
 module _ {S : Type 0} where
@@ -31,10 +30,10 @@ module _ {S : Type 0} where
     rising = orderly_rises;
     low = λ roll issued h. ∥∥₁_elim h (λ (a b : Low roll). λ i l m. le_prop (a l m) (b l m) i) (λ o. o.lower);
     dues = λ roll issued h l p ml mp e. ∥∥₁_elim h le_prop (λ o. o.dues l p ml mp e);
-    kept = λ roll issued h l ml none. ∥∥₁_elim h squash₁ (λ o. ∣ orderly_change l.lender (give K l) (given K l) (close l.number roll) issued (orderly_close l.number roll issued o) ∣₁);
+    kept = λ roll issued h l ml none. ∥∥₁_elim h squash₁ (λ o. ∣ orderly_change l.lender (gaining K l.share) (given K l) (close l.number roll) issued (orderly_close l.number roll issued o) ∣₁);
   }
     where
-      given : (K : Kind S) (l : Lease S) → Stays (give K l)
+      given : (K : Kind S) (l : Lease S) → Stays (gaining K l.share)
       given K l = record { number = λ p. refl; lender = λ p. refl; due = λ p. refl; ranged = λ p r. r }
 
 module _ {S : Type 0} (K : Kind S) where

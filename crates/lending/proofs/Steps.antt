@@ -8,7 +8,7 @@ use Rattle.lending.specs.declared.lease.Lease.{Lease}
 use Rattle.shares.specs.Kind.{Kind, Laws, bind}
 use Rattle.lending.specs.Office.{State, with_today}
 use Rattle.lending.specs.Outcome.{Call, Answer, Outcome}
-use Rattle.lending.specs.Roll.{find, change, close, lends, with_share, with_holder, plus, family}
+use Rattle.lending.specs.Roll.{find, change, close, lends, with_share, with_holder, plus, family, gaining}
 use Rattle.lending.specs.Above.{downward}
 use Rattle.lending.specs.Calls.{due_by, first_lease, lent_lease, after_yield}
 use Rattle.lending.specs.Perform.{perform}
@@ -21,7 +21,7 @@ use Rattle.lending.proofs.Rolls.{find_in, some_is_false, mem_close, mem_map}
 use Rattle.lending.proofs.Invariant.{Inv}
 use Rattle.lending.proofs.Changes.{source, mem_last, last_mem}
 use Rattle.lending.proofs.Opening.{inv_open, inv_lend}
-use Rattle.lending.proofs.Yielding.{give, give_keeps, inv_yield, inv_assign}
+use Rattle.lending.proofs.Yielding.{gaining_keeps, inv_yield, inv_assign}
 use Rattle.lending.proofs.Merging.{relent, relent_is, inv_merge}
 use Rattle.lending.proofs.Cases.{Leaves, alike, open_case, delegate_case, yield_case, merge_case, assign_case, set_day_case, lease_at_case, lease_case, recall_case, hand_in_case, day_case}
 use Rattle.lending.proofs.Numbers.{Has, Moves, stays, length_close}
@@ -73,13 +73,13 @@ module _ {S : Type 0} (K : Kind S) (L : Laws K) where
     one_more k t y n l found e =
         let f = find_in t.core.roll n l found in
         let none : (x : Lease S) → Memᴰ x t.core.roll → x.lender ≡ l.number → ⊥ = λ x m z. eqb-false x.lender n (some_is_false (λ (y : Lease S). eqb y.lender n) t.core.roll e x m) (z ∙ f.1) in
-        let len = length-map (close l.number t.core.roll) (λ x. cond (eqb x.number l.lender) (give K l x) x) in
+        let len = length-map (close l.number t.core.roll) (λ x. cond (eqb x.number l.lender) (gaining K l.share x) x) in
         let cl = length_close 0 t.core.roll y.0.rising l f.0 in
         let c = y.1.count in (
           inv_yield K L y.0 l f.0 none,
           record {
             issued = y.1.issued;
-            old = λ j x. let w = source (close l.number t.core.roll) l.lender (give K l) (give_keeps K l) x.0 x.1 in y.1.old j (w.0, (mem_close t.core.roll l.number w.0 w.1).0, sym w.2.number ∙ x.2);
+            old = λ j x. let w = source (close l.number t.core.roll) l.lender (gaining K l.share) (gaining_keeps K l.share) x.0 x.1 in y.1.old j (w.0, (mem_close t.core.roll l.number w.0 w.1).0, sym w.2.number ∙ x.2);
             count = omega arith;
           },
         )

@@ -18,7 +18,6 @@ use Rattle.lending.specs.Outcome.Answer.{done, number}
 use Rattle.lending.specs.Outcome.Outcome.{refuses, grants}
 use Rattle.lending.proofs.Rolls.{Rising, rising_above, in_find, absent_found, some_is_true, some_is_none, mem_map, map_mem, mem_keep, keep_mem, rising_keep, mem_close, close_mem}
 use Rattle.lending.proofs.Families.{Low, NoZero, in_family, family_step, above_lower}
-use Rattle.lending.proofs.Yielding.{give}
 use Rattle.lending.proofs.Numbers.{Has}
 
 -- numbers that fall
@@ -145,7 +144,7 @@ pub record Sweeps {S : Type 0} (K : Kind S) (P : List (Lease S) → ℕ → Type
   pub rising : (roll : List (Lease S)) (issued : ℕ) → P roll issued → Rising 0 roll
   pub low : (roll : List (Lease S)) (issued : ℕ) → P roll issued → Low roll
   pub dues : (roll : List (Lease S)) (issued : ℕ) → P roll issued → (l p : Lease S) → Memᴰ l roll → Memᴰ p roll → p.number ≡ l.lender → l.due ≤ p.due
-  pub kept : (roll : List (Lease S)) (issued : ℕ) → P roll issued → (l : Lease S) → Memᴰ l roll → ((x : Lease S) → Memᴰ x roll → x.lender ≡ l.number → ⊥) → P (change l.lender (give K l) (close l.number roll)) issued
+  pub kept : (roll : List (Lease S)) (issued : ℕ) → P roll issued → (l : Lease S) → Memᴰ l roll → ((x : Lease S) → Memᴰ x roll → x.lender ≡ l.number → ⊥) → P (change l.lender (gaining K l.share) (close l.number roll)) issued
 
 module _ {S : Type 0} (K : Kind S) (P : List (Lease S) → ℕ → Type 0) (W : Sweeps K P) where
   -- what is left to yield

@@ -13,18 +13,18 @@ pub struct Lease<S> {
     pub resource: u16,
     /// From 1 to `HIGHEST_NAME`.
     pub holder: u16,
-    /// The number of the lease from which it was lent, which is below its own. 0 is the house, which lends each resource's
-    /// first lease. (A number, and no Option, since the rules of an office and the definitions say so.)
+    /// The number of the lease from which it was lent, which is below its own. 0 is the house, which lends each
+    /// resource's first lease. (A number, and no Option, since the rules of an office and the definitions say so.)
     pub lender: u16,
-    /// The day on which it falls due, from 1 to `LAST_DAY`. A first lease has `NEVER_DUE`, a day that never comes (for the
-    /// same reason).
+    /// The day on which it falls due, from 1 to `LAST_DAY`. A first lease has `NEVER_DUE`, a day that never comes (for
+    /// the same reason).
     pub due: u16,
     /// Never the empty share.
     pub share: S,
 }
 
 impl<S: Share> Lease<S> {
-    /// A row that no office has used yet: what the rows that a ledger is lent may hold. Its zeros are in no field's range.
+    /// A row that no office has used yet, for the rows that a ledger is lent. Its number is no lease's.
     pub fn free() -> Lease<S>
         ensures { result ≡ free_lease S.kind }
     {

@@ -29,7 +29,7 @@ pub fn lending_is_conserved<S: Share>()
 
 /// States that calls leave no choice: what a call may come to is settled.
 pub fn calls_leave_no_choice<S: Share>()
-    /// A call to a state has one answer, and leaves one state but for the objections.
+    /// A call to a state has one answer and leaves one state; only the objections after a granted call may differ.
     ensures calls { CallsLeaveNoChoice S.kind }
     /// A list of calls has one history and one state, where objections follow from layers.
     ensures lists { ListsLeaveNoChoice S.kind }
