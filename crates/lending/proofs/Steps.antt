@@ -14,7 +14,7 @@ use Rattle.lending.specs.Calls.{due_by, first_lease, lent_lease, after_yield}
 use Rattle.lending.specs.Perform.{perform}
 use Rattle.lending.specs.Outcome.Call.{open_resource, delegate, yield, merge, assign, new_day, ask_lease_at, ask_lease, recall, day, hand_in}
 use Rattle.lending.specs.Outcome.Answer.{done, number}
-use Rattle.lending.specs.History.{tally, none, one_if_done, its_number, closing, lent_by, lent_both, half_lent}
+use Rattle.lending.specs.History.{tally, none, one_if_done, its_number, closing, lent_by, both_joined, half_lent}
 use Rattle.shares.proofs.Sums.{plus?}
 use Rattle.lending.proofs.Joins.{plus_then}
 use Rattle.lending.proofs.Rolls.{find_in, some_is_false, mem_close, mem_map}
@@ -120,14 +120,14 @@ module _ {S : Type 0} (K : Kind S) (L : Laws K) where
         let less : x.number < y.number = let q = leb-false b a e₁ in omega arith in
         let like = alike x y e₂ in
         let lt' : ℕ → Option S = lent_by K s (merge a b) done lt in
-        let got : lt' x.number ≡ plus? K (lt x.number) (lt y.number) = cond-true (eqb a x.number) (lent_both K lt a b) (lt x.number) (eq-eqb a x.number (sym xn)) ∙ plus_then K (lt a) (lt b) ∙ ap₂ (λ (m n : ℕ). plus? K (lt m) (lt n)) (sym xn) (sym yn) in
+        let got : lt' x.number ≡ plus? K (lt x.number) (lt y.number) = cond-true (eqb a x.number) (both_joined K (lt a) (lt b)) (lt x.number) (eq-eqb a x.number (sym xn)) ∙ plus_then K (lt a) (lt b) ∙ ap₂ (λ (m n : ℕ). plus? K (lt m) (lt n)) (sym xn) (sym yn) in
         let len₁ = length-map (change x.number (with_share (plus K x.share y.share)) (close y.number s.core.roll)) (relent x.number y.number) in
         let len₂ = length-map (close y.number s.core.roll) (λ z. cond (eqb z.number x.number) (with_share (plus K x.share y.share) z) z) in
         let len₃ = length_close 0 s.core.roll I.rising y g.0 in
         record {
           is = (
             inv_merge K L I x y f.0 g.0 less like.0 like.1 like.2 lt' got
-                (λ n h. cond-false (eqb a n) (lent_both K lt a b) (lt n) (ne_eqb a n (λ z. h (sym z ∙ sym xn)))),
+                (λ n h. cond-false (eqb a n) (both_joined K (lt a) (lt b)) (lt n) (ne_eqb a n (λ z. h (sym z ∙ sym xn)))),
             record {
               old = λ n z. let m = mem_map (relent x.number y.number) (change x.number (with_share (plus K x.share y.share)) (close y.number s.core.roll)) z.0 z.1 in
                   let w = source (close y.number s.core.roll) x.number (with_share (plus K x.share y.share)) (λ l. record { number = refl; resource = refl; lender = refl; due = refl }) m.0 m.1 in

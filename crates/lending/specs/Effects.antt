@@ -2,7 +2,7 @@
 -- leave, and what lenders get back by them.
 use Rattle.std.specs.Prelude.{◌≡◌, ℕ, ◌<◌, Bool, T, not, ◌&&◌, ◌||◌, ◌↔◌, List, [], ◌∷◌, map, Some, Option, ◌==◌, ◌≢◌}
 use Rattle.std.specs.List.{filter}
-use Rattle.shares.specs.Kind.{Kind, bind}
+use Rattle.shares.specs.Kind.{Kind}
 use Rattle.lending.specs.declared.lease.Lease.{Lease}
 use Rattle.lending.specs.Office.{State, with_roll, with_today}
 use Rattle.lending.specs.Roll.{find, under, change, with_share, gaining}
@@ -12,7 +12,7 @@ use Rattle.lending.specs.Outcome.Answer.{number, share}
 use Rattle.lending.specs.Calls.{due_by}
 use Rattle.lending.specs.Above.{standing_of}
 use Rattle.lending.specs.Perform.{Does}
-use Rattle.lending.specs.History.{Moment, HoweverReached, lent}
+use Rattle.lending.specs.History.{Moment, HoweverReached, both_joined, lent}
 use Rattle.lending.specs.Promise.{Live, Open, NobodyElse, Gains, CallConserves}
 
 module _ {S : Type 0} where
@@ -22,14 +22,14 @@ module _ {S : Type 0} where
 
   -- Lease l of s, which was lent x, has been recalled.
   pub record TakenBack (K : Kind S) (s t : State S) (l : Lease S) (x : S) : Type 0 where
-    -- The roll is the old one without that lease and those under it; the lender alone has gained x, and nothing else is
-    -- touched,
+    -- The roll is the old one without that lease and those under it; the lender alone has gained x, and nothing else
+    -- is touched,
     pub left : t.core ≡ (with_roll (change l.lender (gaining K x) (without_family s.core.roll l.number)) s).core
     -- and just that, which its share joins with.
     pub gained : (l.lender ≢ 0) → Gains K s t l.lender x
 
-  -- However s was reached: where lease n is live in s, it was recalled, which left t, and its lender has gained exactly
-  -- what it was lent.
+  -- However s was reached: where lease n is live in s, it was recalled, which left t, and its lender has gained
+  -- exactly what it was lent.
   pub record TakesBack (K : Kind S) (s : State S) (n : ℕ) (t : State S) : Type 0 where
     pub after : HoweverReached K s (λ ms. (l : Lease S) → find s.core.roll n ≡ Some l
         → (x : S) × (lent K ms n ≡ Some x) × TakenBack K s t l x)
@@ -37,7 +37,7 @@ module _ {S : Type 0} where
   -- what some leases were lent, all together
   abbrev pub lent_together : Kind S → List (Moment S) → List (Lease S) → Option S
   lent_together K ms [] = Some K.empty
-  lent_together K ms (l ∷ ls) = bind (lent K ms l.number) (λ x. bind (lent_together K ms ls) (λ y. K.join x y))
+  lent_together K ms (l ∷ ls) = both_joined K (lent K ms l.number) (lent_together K ms ls)
 
   -- the leases that n lent and that fall due by day d
   abbrev pub due_from : List (Lease S) → ℕ → ℕ → List (Lease S)
@@ -60,13 +60,13 @@ module _ {S : Type 0} where
   pub record DayComes (K : Kind S) (s : State S) (d : ℕ) (t : State S) : Type 0 where
     pub after : HoweverReached K s (λ ms. DayCame K ms s t d)
 
-  -- However s was reached, the holder's shares do join, to x. So the empty share, which the definition has for shares that
-  -- don't join, is never answered in their place.
+  -- However s was reached, the holder's shares do join, to x. So the empty share, which the definition has for shares
+  -- that don't join, is never answered in their place.
   pub record StandingJoins (K : Kind S) (s : State S) (resource holder : ℕ) (x : S) : Type 0 where
     pub after : HoweverReached K s (λ ms. standing_of K s.core.roll resource holder ≡ Some x)
 
-  -- Whether a holder may write: exactly if its standing is the whole. In an open resource, however s was reached, that is
-  -- so exactly if nobody else has a lease of it.
+  -- Whether a holder may write: exactly if its standing is the whole. In an open resource, however s was reached,
+  -- that is so exactly if nobody else has a lease of it.
   pub record MayWrite (K : Kind S) (s : State S) (resource holder : ℕ) (may : Bool) : Type 0 where
     pub joined : S
     pub stands : Does K s (standing resource holder) (share joined) s

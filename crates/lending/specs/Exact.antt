@@ -25,8 +25,8 @@ module _ {S : Type 0} where
   pub record Exact (K : Kind S) (t : State S) : Type 0 where
     pub rising : Rising 0 t.core.roll
     pub numbered : (l : Lease S) → Live t l → (1 ≤ l.number) × (l.number ≤ t.core.issued)
-    -- Unless the house lent it, a lease's lender is a live lease of the same resource, with a lower number and no earlier
-    -- due day.
+    -- Unless the house lent it, a lease's lender is a live lease of the same resource, with a lower number and no
+    -- earlier due day.
     pub has_lender : (l : Lease S) → Live t l → (l.lender ≢ 0)
         → (p : Lease S) × Live t p
         × (p.number ≡ l.lender) × (p.number < l.number) × (p.resource ≡ l.resource) × (l.due ≤ p.due)

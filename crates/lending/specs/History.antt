@@ -56,19 +56,20 @@ module _ {S : Type 0} where
   abbrev pub half_lent : Kind S → State S → ℕ → Option S
   half_lent K s p = bind (find s.core.roll p) (λ l. bind (K.halve l.share) (λ h. Some h.1))
 
-  -- what leases a and b were lent, joined
-  abbrev pub lent_both : Kind S → (ℕ → Option S) → ℕ → ℕ → Option S
-  lent_both K earlier a b = bind (earlier a) (λ x. bind (earlier b) (λ y. K.join x y))
+  -- both shares joined; None where there are not two, or where they don't join
+  abbrev pub both_joined : Kind S → Option S → Option S → Option S
+  both_joined K x y = bind x (λ a. bind y (λ b. K.join a b))
 
-  -- What lease n was lent after the call, by what each lease was lent before it. A new lease was lent the whole or a half,
-  -- and a lease into which another was merged was lent what both were. No other call changes what a lease was lent.
+  -- What lease n was lent after the call, by what each lease was lent before it. A new lease was lent the whole or a
+  -- half, and a lease into which another was merged was lent what both were. No other call changes what a lease was
+  -- lent.
   abbrev pub lent_by : Kind S → State S → Call → Answer S → (ℕ → Option S) → ℕ → Option S
   lent_by K s (open_resource r h) answer earlier n =
       if_number answer (λ k. if k == n then Some K.whole else earlier n) (earlier n)
   lent_by K s (delegate p h d) answer earlier n =
       if_number answer (λ k. if k == n then half_lent K s p else earlier n) (earlier n)
   lent_by K s (merge a b) answer earlier n =
-      if_done answer (if a == n then lent_both K earlier a b else earlier n) (earlier n)
+      if_done answer (if a == n then both_joined K (earlier a) (earlier b) else earlier n) (earlier n)
   lent_by K s c answer earlier n = earlier n
 
   -- What lease n was lent: the whole, or the half that delegate lent, joined with what each lease merged into it was

@@ -80,8 +80,8 @@ module _ {S : Type 0} where
   passed_up (refused r) = refused (raise r)
   passed_up a = a
 
-  -- A layer is an office: where it has no objection of its own, what the office below does, passed up, is what an office
-  -- does that stands for the layered state.
+  -- A layer is an office: where it has no objection of its own, what the office below does, passed up, is what an
+  -- office does that stands for the layered state.
   abbrev pub LayerIsOffice : Kind S → Type 0
   LayerIsOffice K = (mine : Own S) (s t : State S) (c : Call) (a : Answer S)
       → Passes (mine.objects s.core.roll s.core.today) c → Does K s c a t

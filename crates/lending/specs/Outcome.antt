@@ -38,8 +38,8 @@ pub data Outcome (S : Type 0) : Type 0 where
   tells : Answer S → Outcome S
   grants : Answer S → State S → Outcome S
 
--- An office of this depth refuses with this number: the level is the depth. Nobody piles more than 255 layers, and there
--- the levels end.
+-- An office of this depth refuses with this number: the level is the depth. Nobody piles more than 255 layers, and
+-- there the levels end.
 abbrev pub refused_at : ℕ → ℕ → Refusal
 refused_at depth n = record { number = n; level = min depth most_layers }
 

@@ -54,7 +54,8 @@ module _ {S : Type 0} where
         → Does K t (standing resource holder) a u → (a ≡ share K.whole) ↔ NobodyElse t resource holder
     -- (c) Every issued number is either live or was closed just once,
     pub once : (n : ℕ) → 1 ≤ n → n ≤ t.core.issued
-        → ((live t.core.roll n ≡ true) × (closings ms t n ≡ 0)) ⊎ ((live t.core.roll n ≡ false) × (closings ms t n ≡ 1))
+        → ((live t.core.roll n ≡ true) × (closings ms t n ≡ 0))
+        ⊎ ((live t.core.roll n ≡ false) × (closings ms t n ≡ 1))
     -- and so the counts add up.
     pub counts : t.core.issued ≡ length t.core.roll + yielded ms + merged ms + recalled ms + lapsed ms
     -- A live lease's recall is granted, and its lender gains exactly what that lease was lent.

@@ -35,8 +35,8 @@ pub fn calls_leave_no_choice<S: Share>()
     ensures lists { ListsLeaveNoChoice S.kind }
 {}
 
-/// States what the definitions of the calls rest on, of every state that calls reach: lenders are live, each join that a
-/// call makes is defined, and a day is refused for its number alone.
+/// States what the definitions of the calls rest on, of every state that calls reach: lenders are live, each join
+/// that a call makes is defined, and a day is refused for its number alone.
 pub fn calls_are_exact<S: Share>()
     ensures { CallsExact S.kind }
 {}
@@ -46,7 +46,8 @@ pub fn layer_is_an_office<S: Share>()
     ensures { LayerIsOffice S.kind }
 {}
 
-/// States that what is played through the definitions, as worked examples are, is a list of calls as the promise means.
+/// States that what is played through the definitions, as worked examples are, is a list of calls as the promise
+/// means.
 pub fn plays_are_histories<S: Share>()
     ensures { PlaysAreHistories S.kind }
 {}

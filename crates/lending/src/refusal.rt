@@ -3,8 +3,8 @@ ghost use Rattle.lending.specs.Answers.{reason_number, refused_here, raised_refu
 
 use thiserror::Error;
 
-/// Why a call was refused, with the number by which everybody knows the reason: 1 to 15 are every office's, 21 to 23 are
-/// the layers'.
+/// Why a call was refused, with the number by which everybody knows the reason: 1 to 15 are every office's, 21 to 23
+/// are the layers'.
 #[derive(Clone, Copy, PartialEq, Eq, Debug, Drop, Error)]
 pub enum Reason {
     #[error("the resource is not from 1 to 999")]
