@@ -68,6 +68,7 @@ module _ {S : Type 0} where
   -- Whether a holder may write: exactly if its standing is the whole. In an open resource, however s was reached,
   -- that is so exactly if nobody else has a lease of it.
   pub record MayWrite (K : Kind S) (s : State S) (resource holder : ℕ) (may : Bool) : Type 0 where
+    -- the standing that is answered
     pub joined : S
     pub stands : Does K s (standing resource holder) (share joined) s
     pub conserved : CallConserves K s (standing resource holder) (share joined) s

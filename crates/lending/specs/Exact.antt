@@ -23,6 +23,7 @@ module _ {S : Type 0} where
 
   -- What holds of such a state.
   pub record Exact (K : Kind S) (t : State S) : Type 0 where
+    -- The numbers rise, and each was issued.
     pub rising : Rising 0 t.core.roll
     pub numbered : (l : Lease S) → Live t l → (1 ≤ l.number) × (l.number ≤ t.core.issued)
     -- Unless the house lent it, a lease's lender is a live lease of the same resource, with a lower number and no
