@@ -2,7 +2,7 @@
 use Rattle.std.proofs.Common.{◌≡◌, ℕ, zero, suc, ◌<◌, ◌≤◌, Bool, true, false, cond, not, ◌&&◌, ◌||◌, eqb, ◌⊎◌, List, [], ◌∷◌, length, Some, None, Option, sym, refl, ap, ◌∙◌, ap₂, inl, inr, ⊎_elim, arith}
 use Rattle.std.specs.List.{filter, list_any}
 use mathlib.Core.List.{Memᴰ}
-use Rattle.std.proofs.lemmas.Bool.{eqb-true, eqb-false, eq-eqb, ne_eqb, cases_Bool, cond-true, cond-false, or_cases, or_parts, or_left, or_right, cases_lt, not-false, and_from}
+use Rattle.std.proofs.lemmas.Bool.{eqb-true, eqb-false, eq-eqb, ne_eqb, cases_Bool, cond-true, cond-false, or_cases, or_left, or_right, cases_lt, and_from}
 use Rattle.lending.specs.declared.lease.Lease.{Lease}
 use Rattle.shares.specs.Kind.{Kind, Laws}
 use Rattle.lending.specs.Office.{State, with_today}
@@ -26,6 +26,7 @@ use Rattle.lending.proofs.Yielding.{lender_joins}
 use Rattle.lending.proofs.Merging.{shares_join}
 use Rattle.lending.proofs.Sweeping.{Sweeps, due_granted, day_performs}
 use Rattle.lending.proofs.Returning.{inv_sweeps}
+use Rattle.lending.proofs.Cases.{alike}
 use Rattle.lending.proofs.Theorem.{kept}
 
 module _ {S : Type 0} (roll : List (Lease S)) (n : ℕ) where
@@ -90,11 +91,9 @@ module _ {S : Type 0} (K : Kind S) (L : Laws K) (lt : ℕ → Option S) (t : Sta
 
   merge_joined : (a b : Lease S) → Memᴰ a t.core.roll → Memᴰ b t.core.roll → a.number < b.number → unlike a b ≡ false → (s : S) × (K.join a.share b.share ≡ Some s)
   merge_joined a b ma mb less q =
-      let p₁ = or_parts (not (eqb a.lender b.lender)) (eqb a.lender 0 || (not (eqb a.holder b.holder) || not (eqb a.due b.due))) q in
-      let p₂ = or_parts (eqb a.lender 0) (not (eqb a.holder b.holder) || not (eqb a.due b.due)) p₁.1 in
-      let p₃ = or_parts (not (eqb a.holder b.holder)) (not (eqb a.due b.due)) p₂.1 in (
+      let like = alike a b q in (
         plus K a.share b.share,
-        sym (plus_join K a.share b.share) ∙ shares_join K L I a b ma mb less (eqb-true a.lender b.lender (not-false (eqb a.lender b.lender) p₁.0)) (eqb-false a.lender 0 p₂.0) (eqb-true a.due b.due (not-false (eqb a.due b.due) p₃.1))
+        sym (plus_join K a.share b.share) ∙ shares_join K L I a b ma mb less like.0 like.1 like.2
             (λ n. cond (eqb a.number n) (plus? K (lt a.number) (lt b.number)) (lt n))
             (cond-true (eqb a.number a.number) (plus? K (lt a.number) (lt b.number)) (lt a.number) (eq-eqb a.number a.number refl))
             (λ n h. cond-false (eqb a.number n) (plus? K (lt a.number) (lt b.number)) (lt n) (ne_eqb a.number n (λ z. h (sym z)))),

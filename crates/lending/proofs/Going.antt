@@ -5,9 +5,9 @@ use mathlib.Core.Logic.{∥∥₁_elim}
 use native.Mathlib.Bridge.{le_prop}
 use Rattle.lending.specs.declared.lease.Lease.{Lease}
 use Rattle.shares.specs.Kind.{Kind}
-use Rattle.lending.specs.Office.{Refusal, Request, Core, State, with_today}
+use Rattle.lending.specs.Office.{Core, State, with_today}
 use Rattle.lending.specs.Orderly.{Orderly}
-use Rattle.lending.specs.Roll.{find, live, close, lends, family}
+use Rattle.lending.specs.Roll.{find, live, close, lends, family, gaining}
 use Rattle.lending.specs.Outcome.{Answer, Outcome, unless, need_live, and_then, answering}
 use Rattle.lending.specs.Outcome.Answer.{done, number}
 use Rattle.lending.specs.Outcome.Call.{yield, new_day, day}
@@ -18,7 +18,6 @@ use Rattle.lending.specs.Perform.{Ends, Does}
 use Rattle.lending.proofs.Rolls.{find_in, rising_above}
 use Rattle.lending.proofs.Families.{Low}
 use Rattle.lending.proofs.Order.{orderly_rises, orderly_change, orderly_close, Stays}
-use Rattle.lending.proofs.Yielding.{give}
 use Rattle.lending.proofs.Sweeping.{Sweeps, family_granted, due_granted, day_set, day_performs}
 
 module _ {S : Type 0} where
@@ -31,19 +30,19 @@ module _ {S : Type 0} where
     rising = orderly_rises;
     low = λ roll issued h. ∥∥₁_elim h (λ (a b : Low roll). λ i l m. le_prop (a l m) (b l m) i) (λ o. o.lower);
     dues = λ roll issued h l p ml mp e. ∥∥₁_elim h le_prop (λ o. o.dues l p ml mp e);
-    kept = λ roll issued h l ml none. ∥∥₁_elim h squash₁ (λ o. ∣ orderly_change l.lender (give K l) (given K l) (close l.number roll) issued (orderly_close l.number roll issued o) ∣₁);
+    kept = λ roll issued h l ml none. ∥∥₁_elim h squash₁ (λ o. ∣ orderly_change l.lender (gaining K l.share) (given K l) (close l.number roll) issued (orderly_close l.number roll issued o) ∣₁);
   }
     where
-      given : (K : Kind S) (l : Lease S) → Stays (give K l)
+      given : (K : Kind S) (l : Lease S) → Stays (gaining K l.share)
       given K l = record { number = λ p. refl; lender = λ p. refl; due = λ p. refl; ranged = λ p r. r }
 
 module _ {S : Type 0} (K : Kind S) where
-  -- a state with other objections
-  abbrev pub objecting : (Request → Option Refusal) → State S → State S
-  objecting o s = record { core = s.core; objections = o }
+  -- a state with the objections of another
+  abbrev pub objecting : State S → State S → State S
+  objecting o s = record o { core = s.core }
 
   -- yields don't look at objections
-  yields_core : (ns : List ℕ) (s u : State S) (o : Request → Option Refusal) → yields K s ns ≡ grants done u → yields K (objecting o s) ns ≡ grants done (objecting o u)
+  yields_core : (ns : List ℕ) (s u o : State S) → yields K s ns ≡ grants done u → yields K (objecting o s) ns ≡ grants done (objecting o u)
   yields_core [] s u o e = let z : s ≡ u = cc in ap (λ (v : State S). grants done (objecting o v)) z
   yields_core (n ∷ ns) s u o e = go (find s.core.roll n) (lends s.core.roll n) e (λ t f. yields_core ns t u o f)
     where
@@ -55,16 +54,16 @@ module _ {S : Type 0} (K : Kind S) where
       go (Some l) false f ih = ih (after_yield K s l) f
 
   -- after one yield by an office, the others are still granted
-  pub yields_on : (n : ℕ) (ns : List ℕ) (s t u : State S) (a : Answer S) → yields K s (n ∷ ns) ≡ grants done u → Does K s (yield n) a t → yields K t ns ≡ grants done (objecting t.objections u)
+  pub yields_on : (n : ℕ) (ns : List ℕ) (s t u : State S) (a : Answer S) → yields K s (n ∷ ns) ≡ grants done u → Does K s (yield n) a t → yields K t ns ≡ grants done (objecting t u)
   yields_on n ns s t u a e d = go (do_yield K s n) e d
     where
-      go : (o : Outcome S) → and_then o (λ v. yields K v ns) ≡ grants done u → Ends o s a t → yields K t ns ≡ grants done (objecting t.objections u)
+      go : (o : Outcome S) → and_then o (λ v. yields K v ns) ≡ grants done u → Ends o s a t → yields K t ns ≡ grants done (objecting t u)
       go (refuses r) f x = absurd (let z : ◌≡◌ {A = ℕ} 0 1 = cc in omega arith)
       go (tells b) f x = absurd (told b f)
         where
           told : (b : Answer S) → tells b ≡ grants done u → ⊥
           told b g = let z : ◌≡◌ {A = ℕ} 0 1 = cc in omega arith
-      go (grants b v) f x = subst (λ (w : State S). yields K w ns ≡ grants done (objecting t.objections u)) (ap (λ (k : Core S). record { core = k; objections = t.objections }) (sym x.1)) (yields_core ns v u t.objections f)
+      go (grants b v) f x = subst (λ (w : State S). yields K w ns ≡ grants done (objecting t u)) (ap (λ (k : Core S). record t { core = k }) (sym x.1)) (yields_core ns v u t f)
 
   pub no_yields : (s u : State S) → yields K s [] ≡ grants done u → s.core ≡ u.core
   no_yields s u e = let z : s ≡ u = cc in ap (λ (v : State S). v.core) z
@@ -97,4 +96,4 @@ module _ {S : Type 0} (K : Kind S) where
         let at : t.core ≡ g.after.core = h g.after g.is in
         let ends : Ends (grants done (with_today d t)) t a v = subst (λ (w : Outcome S). Ends w t a v) (day_set K Order (orderly_sweeps K) s o d t at good) does in
         subst (λ (p : Outcome S). Ends p s (number k) v) (sym (day_performs K Order (orderly_sweeps K) s o d good))
-        (ap number len, ends.1 ∙ ap (λ (c : Core S). (with_today d (record { core = c; objections = s.objections })).core) at)
+        (ap number len, ends.1 ∙ ap (λ (c : Core S). (with_today d (record s { core = c })).core) at)

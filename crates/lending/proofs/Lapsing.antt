@@ -53,7 +53,7 @@ module _ {S : Type 0} (K : Kind S) (L : Laws K) (ms : List (Moment S)) where
     unfolding lapsed
     day_came t c = record {
       none_due = λ l m. none_due K P W s I d l (subst (λ (k : Core S). Memᴰ l k.roll) c m);
-      left = c ∙ ap (λ (k : Core S). (with_today d (record { core = k; objections = s.objections })).core) lapsed.core ∙ ap (λ (r : List (Lease S)). (with_roll r (with_today d s)).core) (ap (λ (k : Core S). k.roll) (sym c));
+      left = c ∙ ap (λ (k : Core S). (with_today d (record s { core = k })).core) lapsed.core ∙ ap (λ (r : List (Lease S)). (with_roll r (with_today d s)).core) (ap (λ (k : Core S). k.roll) (sym c));
       others = ap (λ (k : Core S). map (with_share K.empty) k.roll) c ∙ lapsed.shape ∙ ap (map (with_share K.empty)) (without_is lapsing s.core.roll ∙ filter_ext (λ z. not (among lapsing z.number)) (λ z. not (due_by d z)) s.core.roll (λ z m. ap not (among_due z m)));
       got_back = λ l m ml mm e.
           let j : plus? K (Some l.share) (closed_from K L (lent K ms) s I lapsing lapsed l.number) ≡ Some m.share = joined K L (lent K ms) s I lapsing lapsed l m ml (subst (λ (k : Core S). Memᴰ m k.roll) c mm) e in

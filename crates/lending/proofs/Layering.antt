@@ -5,14 +5,14 @@ use mathlib.Core.Option as maybe
 use lib.ListN.{get_elem?}
 use Rattle.lending.specs.declared.lease.Lease.{Lease}
 use Rattle.shares.specs.Kind.{Kind}
-use Rattle.lending.specs.Office.{Refusal, Request, State, issue, with_roll, with_today}
+use Rattle.lending.specs.Office.{Refusal, State, issue, with_roll, with_today}
 use Rattle.lending.specs.Outcome.{Call, Answer, Outcome, refused_at, unless, unless_objected, need_live, need_halves, tell_at}
 use Rattle.lending.specs.Roll.{find, is_open, lends, change, with_holder}
 use Rattle.lending.specs.Perform.{perform, Ends}
 use Rattle.lending.specs.Limits.{within_range}
 use Rattle.lending.specs.Calls.{numbers_out, rows_full, first_lease, bad_due_day, after_delegate, after_yield, unlike, after_merge, bad_day, due_by}
 use Rattle.lending.specs.Office.Request.{opening, delegating, assigning}
-use Rattle.lending.specs.Outcome.Call.{open_resource, delegate, yield, merge, assign, new_day, ask_count, ask_issued, ask_today, ask_lease_at, ask_lease, recall, day, standing, hand_in}
+use Rattle.lending.specs.Outcome.Call.{open_resource, delegate, yield, merge, assign, new_day, ask_lease_at, ask_lease, recall, day, standing, hand_in}
 use Rattle.lending.specs.Outcome.Answer.{done, number, lease, refused}
 use Rattle.lending.specs.Outcome.Outcome.{refuses, tells, grants}
 use Rattle.lending.specs.Layers.{Own, deeper, layered, own_or_raised, raise, passed_up, Passes, LayerIsOffice}
@@ -149,15 +149,14 @@ module _ {S : Type 0} where
     ups (merge a b) e = up_merge a b
     ups (assign n h) e = up_assign n h e
     ups (new_day d) e = up_unless s.core.depth ((bad_day s d, 13) ∷ (list_any (due_by d) s.core.roll, 14) ∷ []) (grants done (with_today d s)) (grants done (with_today d over)) (grown done (with_today d s) (with_today d over) refl refl)
-    ups ask_count e = up_tells refl
-    ups ask_issued e = up_tells refl
-    ups ask_today e = up_tells refl
     ups (ask_lease_at i) e = up_at s.core.depth (get_elem? s.core.roll i)
     ups (ask_lease n) e = up_live s.core.depth (find s.core.roll n) (λ l. tells (lease l)) (λ l. tells (lease l)) (λ l. up_tells refl)
     ups (recall n) e = elim e [ ]
     ups (day d) e = elim e [ ]
     ups (standing r h) e = elim e [ ]
     ups (hand_in n) e = elim e [ ]
+    -- the other questions
+    ups c e = up_tells refl
 
   pub layer_is_office : (K : Kind S) → LayerIsOffice K
   layer_is_office K mine s t c a e does = ends_up mine s t a (ups K mine s c e) does

@@ -8,6 +8,7 @@ pub mod Opening
 pub mod Yielding
 pub mod Merging
 pub mod Numbers
+pub mod Cases
 pub mod Steps
 pub mod Counting
 pub mod Sweeping

@@ -5,7 +5,7 @@ use Rattle.std.proofs.lemmas.Bool.{eq-eqb, ne_eqb, cases_eq, cond-true, cond-fal
 use Rattle.lending.specs.declared.lease.Lease.{Lease}
 use Rattle.shares.specs.Kind.{Kind, Laws}
 use Rattle.lending.specs.Roll.{change, close, with_share}
-use Rattle.lending.specs.Calls.{first_lease}
+use Rattle.lending.specs.Calls.{first_lease, lent_lease}
 use Rattle.shares.proofs.Sums.{plus?, plus_join, nothing, plus_comm, plus_assoc, plus_nothing, nothing_plus}
 use Rattle.lending.proofs.Totals.{total, total_nothing}
 use Rattle.lending.proofs.Rolls.{rising_above, rising_last, rising_change, Changed, mem_change, change_mem_same, one_number, split_change, split_close}
@@ -58,7 +58,7 @@ module _ {S : Type 0} (K : Kind S) (L : Laws K) {roll : List (Lease S)} {issued 
             ∙ plus_nothing K L (Some K.whole) ∙ sym got
 
     pub inv_lend : (p : Lease S) → Memᴰ p roll → (kept lent : S) → K.halve p.share ≡ Some (kept, lent) → (h due : ℕ) → due ≤ p.due → lt' (issued + 1) ≡ Some lent
-        → Inv K (change p.number (with_share kept) roll ++ (record { number = issued + 1; resource = p.resource; holder = h; lender = p.number; due = due; share = lent } ∷ [])) (issued + 1) lt'
+        → Inv K (change p.number (with_share kept) roll ++ (lent_lease (issued + 1) p h due lent ∷ [])) (issued + 1) lt'
     inv_lend p mp kept lent cut h due by got = record {
       rising = rising_last 0 cr new (omega arith) (λ x m. let s = src x m in let q = I.within s.0 s.1 in let e = s.2.number in omega arith) (rising_change p.number (with_share kept) (λ l. refl) 0 roll I.rising);
       within = λ x m. ⊎_elim (λ (k : Memᴰ x cr). let s = src x k in let q = I.within s.0 s.1 in let e = s.2.number in omega arith) (λ (e : x ≡ new). let q : x.number ≡ issued + 1 = ap (λ (y : Lease S). y.number) e in omega arith) (mem_last cr new x m);
@@ -71,7 +71,7 @@ module _ {S : Type 0} (K : Kind S) (L : Laws K) {roll : List (Lease S)} {issued 
     }
       where
         new : Lease S
-        new = record { number = issued + 1; resource = p.resource; holder = h; lender = p.number; due = due; share = lent }
+        new = lent_lease (issued + 1) p h due lent
 
         cr : List (Lease S)
         cr = change p.number (with_share kept) roll

@@ -1,16 +1,17 @@
 -- Every granted call keeps the order of the roll.
-use Rattle.std.proofs.Common.{◌≡◌, ℕ, ◌+◌, ◌<◌, ◌≤◌, Bool, true, false, cond, not, ◌||◌, eqb, ◌⊎◌, List, [], ◌∷◌, ◌++◌, map, Some, sym, refl, ap, ◌∙◌, subst, inl, inr, ⊎_elim, arith}
+use Rattle.std.proofs.Common.{◌≡◌, ℕ, ◌+◌, ◌<◌, ◌≤◌, Bool, true, false, cond, not, eqb, ◌⊎◌, List, [], ◌∷◌, ◌++◌, map, Some, sym, refl, ap, ◌∙◌, subst, inl, inr, ⊎_elim, arith}
 use Rattle.std.specs.List.{filter}
 use mathlib.Core.Logic.{∥∥₁_elim}
 use mathlib.Core.List.{Memᴰ}
 use native.Mathlib.Bridge.{le_prop}
-use Rattle.std.proofs.lemmas.Bool.{eqb-true, or_parts, not-false}
+use Rattle.std.proofs.lemmas.Bool.{eqb-true}
 use Rattle.lending.specs.declared.lease.Lease.{Lease}
 use Rattle.lending.specs.Roll.{Rising, find, change, close, relend, with_lender, with_share}
-use Rattle.lending.specs.Calls.{unlike}
+use Rattle.lending.specs.Calls.{unlike, lent_lease}
 use Rattle.lending.specs.Limits.{within_range, never}
 use Rattle.lending.specs.Orderly.{Ranged, Orderly}
 use Rattle.lending.proofs.Rolls.{mem_map, mem_keep, mem_close, rising_keep, rising_map, rising_last, rising_above, one_number, find_in}
+use Rattle.lending.proofs.Cases.{alike}
 use Rattle.lending.proofs.Changes.{mem_last, source}
 
 module _ {S : Type 0} where
@@ -177,12 +178,12 @@ module _ {S : Type 0} where
   orderly_so roll after is issued next h e f = ∥∥₁_elim h squash₁ (λ o. ∣ subst (λ (r : List (Lease S)). Orderly r next) (sym e) (f o) ∣₁)
 
   -- a lender keeps one share and lends another
-  pub orderly_lent : (n h d : ℕ) (x : Lease S) (v w : S) (roll : List (Lease S)) (issued : ℕ) → find roll n ≡ Some x → within_range h ≡ true → d ≤ never → d ≤ x.due → Orderly roll issued → Orderly (change n (with_share v) roll ++ (record { number = issued + 1; resource = x.resource; holder = h; lender = n; due = d; share = w } ∷ [])) (issued + 1)
+  pub orderly_lent : (n h d : ℕ) (x : Lease S) (v w : S) (roll : List (Lease S)) (issued : ℕ) → find roll n ≡ Some x → within_range h ≡ true → d ≤ never → d ≤ x.due → Orderly roll issued → Orderly (change n (with_share v) roll ++ (lent_lease (issued + 1) x h d w ∷ [])) (issued + 1)
   orderly_lent n h d x v w roll issued found ranged late by o =
       let f = find_in roll n x found in
       let e = f.1 in
       let i = o.within x f.0 in
-      orderly_last (change n (with_share v) roll) issued (record { number = issued + 1; resource = x.resource; holder = h; lender = n; due = d; share = w }) refl (omega arith)
+      orderly_last (change n (with_share v) roll) issued (lent_lease (issued + 1) x h d w) refl (omega arith)
       (λ p m q. let s = source roll n (with_share v) (λ l. record { number = refl; resource = refl; lender = refl; due = refl }) p m in
       let s₁ = s.2.number in let s₂ = s.2.due in
       let same : s.0 ≡ x = one_number 0 roll o.rising s.0 x s.1 f.0 (omega arith) in
@@ -194,8 +195,4 @@ module _ {S : Type 0} where
   orderly_first l roll issued e z r o = orderly_last roll issued l e (omega arith) (λ p m q. let a = rising_above 0 roll o.rising p m in absurd (omega arith)) r o
 
   pub alike_due : (x y : Lease S) → unlike x y ≡ false → x.due ≡ y.due
-  alike_due x y e =
-      let p₁ = or_parts (not (eqb x.lender y.lender)) (eqb x.lender 0 || (not (eqb x.holder y.holder) || not (eqb x.due y.due))) e in
-      let p₂ = or_parts (eqb x.lender 0) (not (eqb x.holder y.holder) || not (eqb x.due y.due)) p₁.1 in
-      let p₃ = or_parts (not (eqb x.holder y.holder)) (not (eqb x.due y.due)) p₂.1 in
-      eqb-true x.due y.due (not-false (eqb x.due y.due) p₃.1)
+  alike_due x y e = (alike x y e).2

@@ -24,7 +24,7 @@ module _ {S : Type 0} (layers : Layers S) where
   pub worked_call : (o : Outcome S) (s u : State S) (a : Answer S) → Follow layers u → Ends o s a u → (a ≡ outcome_answer o) × (u ≡ state_after layers o s)
   worked_call (refuses r) s u a q e = e
   worked_call (tells x) s u a q e = e
-  worked_call (grants x v) s u a q e = (e.0, ap₂ (λ (c : Core S) (o : _). record { core = c; objections = o }) e.1 (q ∙ ap (λ (c : Core S). objections layers c.roll c.today) e.1))
+  worked_call (grants x v) s u a q e = (e.0, ap₂ (λ (c : Core S) (o : _). record v { core = c; objections = o }) e.1 (q ∙ ap (λ (c : Core S). objections layers c.roll c.today) e.1))
 
   -- a list of calls that were made, and as it is played
   pub worked_list : (K : Kind S) (s : State S) (ms : List (Moment S)) (t : State S) → Leads K s ms t → EachCameTo (Follow layers) ms → Follow layers t → (ms, t) ≡ play K layers s (map (λ m. m.call) ms)

@@ -6,9 +6,9 @@ use Rattle.std.proofs.lemmas.Bool.{eqb-true, eq-eqb, ne_eqb, cases_eq, cond-true
 use Rattle.lending.specs.declared.lease.Lease.{Lease}
 use Rattle.shares.specs.Kind.{Kind, Laws}
 use Rattle.lending.specs.Office.{Core, State, with_roll}
-use Rattle.lending.specs.Roll.{find, under, change, close, family, with_share}
+use Rattle.lending.specs.Roll.{find, under, change, close, family, with_share, gaining}
 use Rattle.lending.specs.Above.{downward}
-use Rattle.lending.specs.Effects.{TakenBack, gaining, without_family}
+use Rattle.lending.specs.Effects.{TakenBack, without_family}
 use Rattle.shares.proofs.Sums.{plus?, nothing, plus_join, plus_assoc, plus_nothing, nothing_plus}
 use Rattle.lending.proofs.Totals.{total, where_is, total_ext, total_plus, total_map, total_nothing, total_filter}
 use Rattle.lending.proofs.Rolls.{rising_above, one_number, mem_close, split_close, in_find, Changed, mem_change, change_mem_same}

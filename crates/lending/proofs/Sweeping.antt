@@ -8,18 +8,16 @@ use Rattle.lending.specs.declared.lease.Lease.{Lease}
 use Rattle.shares.specs.Kind.{Kind}
 use Rattle.lending.specs.Office.{Core, State, with_roll, with_today}
 use Rattle.lending.specs.Outcome.{Outcome, refused_at, unless, need_live, and_then, answering}
-use Rattle.lending.specs.Roll.{find, change, close, lends, family, with_share}
+use Rattle.lending.specs.Roll.{find, change, close, lends, family, with_share, gaining}
 use Rattle.lending.specs.Above.{yields, downward}
 use Rattle.lending.specs.Calls.{do_yield, do_set_day, after_yield, due_by, bad_day}
 use Rattle.lending.specs.Limits.{last_day}
 use Rattle.lending.specs.Perform.{perform}
 use Rattle.lending.specs.Outcome.Call.{day}
 use Rattle.lending.specs.Outcome.Answer.{done, number}
-use Rattle.lending.specs.Effects.{gaining}
 use Rattle.lending.specs.Outcome.Outcome.{refuses, grants}
 use Rattle.lending.proofs.Rolls.{Rising, rising_above, in_find, absent_found, some_is_true, some_is_none, mem_map, map_mem, mem_keep, keep_mem, rising_keep, mem_close, close_mem}
 use Rattle.lending.proofs.Families.{Low, NoZero, in_family, family_step, above_lower}
-use Rattle.lending.proofs.Yielding.{give}
 use Rattle.lending.proofs.Numbers.{Has}
 
 -- numbers that fall
@@ -146,7 +144,7 @@ pub record Sweeps {S : Type 0} (K : Kind S) (P : List (Lease S) → ℕ → Type
   pub rising : (roll : List (Lease S)) (issued : ℕ) → P roll issued → Rising 0 roll
   pub low : (roll : List (Lease S)) (issued : ℕ) → P roll issued → Low roll
   pub dues : (roll : List (Lease S)) (issued : ℕ) → P roll issued → (l p : Lease S) → Memᴰ l roll → Memᴰ p roll → p.number ≡ l.lender → l.due ≤ p.due
-  pub kept : (roll : List (Lease S)) (issued : ℕ) → P roll issued → (l : Lease S) → Memᴰ l roll → ((x : Lease S) → Memᴰ x roll → x.lender ≡ l.number → ⊥) → P (change l.lender (give K l) (close l.number roll)) issued
+  pub kept : (roll : List (Lease S)) (issued : ℕ) → P roll issued → (l : Lease S) → Memᴰ l roll → ((x : Lease S) → Memᴰ x roll → x.lender ≡ l.number → ⊥) → P (change l.lender (gaining K l.share) (close l.number roll)) issued
 
 module _ {S : Type 0} (K : Kind S) (P : List (Lease S) → ℕ → Type 0) (W : Sweeps K P) where
   -- what is left to yield

@@ -15,13 +15,14 @@ use Rattle.lending.specs.Outcome.Call.{recall, standing, hand_in}
 use Rattle.lending.specs.Outcome.Answer.{number, share, refused}
 use Rattle.lending.specs.Outcome.Outcome.{refuses, tells, grants}
 use Rattle.lending.specs.History.{Moment, Leads, lent, yielded, merged, recalled as recalled_in, lapsed, closings, closed_between}
-use Rattle.lending.specs.Effects.{TakenBack, EveryRecallTakesBack, EveryHandInTakesBack, EveryDayComes, EveryStandingJoins, EveryStandingTells}
+use Rattle.lending.specs.Effects.{TakenBack, TakesBack, EveryRecallTakesBack, EveryHandInTakesBack, EveryDayComes, EveryStandingJoins, EveryStandingTells}
 use Rattle.lending.specs.Promise.{Returned, Conserved, LendingConserved, EveryCallConserves}
 use Rattle.lending.proofs.Rolls.{find_in}
 use Rattle.lending.proofs.Invariant.{Inv, standing_part, writes_when_alone, alone_when_writes}
 use Rattle.lending.proofs.Families.{family_joins}
 use Rattle.lending.proofs.Numbers.{Has, has_live, hasnt_live, has_or_not}
-use Rattle.lending.proofs.Steps.{Step, Good, good}
+use Rattle.lending.proofs.Cases.{left}
+use Rattle.lending.proofs.Steps.{Step, good}
 use Rattle.lending.proofs.Sweeping.{Granted, gone, day_performs}
 use Rattle.lending.proofs.Lapsing.{lapsed as lapsed_all, day_came}
 use Rattle.lending.proofs.Returning.{inv_sweeps, recalled as recalled_all, root_in, taken_back}
@@ -58,17 +59,8 @@ module _ {S : Type 0} (K : Kind S) (L : Laws K) where
         counts = omega arith;
       }
 
-  -- what an outcome of a call says of the state after it
-  pub steps : (s t : State S) (lt : ℕ → Option S) (c : Call) (a : Answer S) (o : Outcome S) → Good K L s lt c o → Ends o s a t → Step K L s lt c a t.core.roll t.core.issued
-  steps s t lt c a (refuses r) g e = subst₂ (λ (x : Answer S) (u : State S). Step K L s lt c x u.core.roll u.core.issued) (sym e.0) (sym e.1) g.is
-  steps s t lt c a (tells x) g e = subst₂ (λ (y : Answer S) (u : State S). Step K L s lt c y u.core.roll u.core.issued) (sym e.0) (sym e.1) g.is
-  steps s t lt c a (grants x u) g e = subst (λ (y : Answer S). Step K L s lt c y t.core.roll t.core.issued) (sym e.0) (subst (λ (k : Core S). Step K L s lt c x k.roll k.issued) (sym e.1) g.is)
-
   -- one call more
   module _ (m : Moment S) (ms : List (Moment S)) (t : State S) (k : Kept ms m.before) (st : Step K L m.before (lent K ms) m.call m.answer t.core.roll t.core.issued) where
-    s : State S
-    s = m.before
-
     between_stays : (n : ℕ) → (Has m.before.core.roll n → ⊥) → closed_between m.before t n ≡ 0
     between_stays n h = ap (λ (b : Bool). cond (b && not (live t.core.roll n)) 1 0) (hasnt_live m.before.core.roll n h)
 
@@ -112,7 +104,7 @@ module _ {S : Type 0} (K : Kind S) (L : Laws K) where
 
   pub kept : (start : State S) → SetUp start → (ms : List (Moment S)) (t : State S) → Leads K start ms t → Kept ms t
   kept start up [] t e = kept_start start t up e
-  kept start up (m ∷ ms) t e = let k = kept start up ms m.before e.0 in kept_more m ms t k (steps m.before t (lent K ms) m.call m.answer (perform K m.before m.call) (good K L m.before (lent K ms) k.inv m.call) e.1)
+  kept start up (m ∷ ms) t e = let k = kept start up ms m.before e.0 in kept_more m ms t k (left (λ a c. Step K L m.before (lent K ms) m.call a c.roll c.issued) m.before (perform K m.before m.call) (good K L m.before (lent K ms) k.inv m.call) m.answer t e.1)
 
   -- a recall of a live lease
   module _ (ms : List (Moment S)) (t : State S) (k : Kept ms t) (l : Lease S) (ml : Memᴰ l t.core.roll) where
@@ -185,21 +177,22 @@ pub lending_conserved : {S : Type 0} (K : Kind S) → Laws K → LendingConserve
 lending_conserved K L start t up ms leads = conserved K L ms t (kept K L start up ms t leads)
 
 module _ {S : Type 0} (K : Kind S) (L : Laws K) where
-  pub every_recall_takes_back : EveryRecallTakesBack K
-  every_recall_takes_back s t n a does = record {
+  -- a call that closes a lease and all under it takes back what that lease was lent
+  takes_back : (call : ℕ → Call)
+      → ((ms : List (Moment S)) (s : State S) (k : Kept K L ms s) (l : Lease S) (ml : Memᴰ l s.core.roll) (a : Answer S) (t : State S) → Does K s (call l.number) a t → Ends (grants (number (count K L ms s k l ml)) (g K L ms s k l ml).after) s a t)
+      → (s t : State S) (n : ℕ) (a : Answer S) → Does K s (call n) a t → TakesBack K s n t
+  takes_back call closes s t n a does = record {
     after = λ start up ms leads l found.
         let k = kept K L start up ms s leads in let f = find_in s.core.roll n l found in
-        subst (λ (m : ℕ). Does K s (recall m) a t → (x : S) × (lent K ms m ≡ Some x) × TakenBack K s t l x) f.1
-        (λ d. taken K L ms s k l f.0 a t (recalled K L ms s k l f.0 a t d)) does;
+        subst (λ (m : ℕ). Does K s (call m) a t → (x : S) × (lent K ms m ≡ Some x) × TakenBack K s t l x) f.1
+        (λ d. taken K L ms s k l f.0 a t (closes ms s k l f.0 a t d)) does;
   }
 
+  pub every_recall_takes_back : EveryRecallTakesBack K
+  every_recall_takes_back = takes_back recall (recalled K L)
+
   pub every_hand_in_takes_back : EveryHandInTakesBack K
-  every_hand_in_takes_back s t n a does = record {
-    after = λ start up ms leads l found.
-        let k = kept K L start up ms s leads in let f = find_in s.core.roll n l found in
-        subst (λ (m : ℕ). Does K s (hand_in m) a t → (x : S) × (lent K ms m ≡ Some x) × TakenBack K s t l x) f.1
-        (λ d. taken K L ms s k l f.0 a t (handed_in K L ms s k l f.0 a t d)) does;
-  }
+  every_hand_in_takes_back = takes_back hand_in (handed_in K L)
 
   pub every_day_comes : EveryDayComes K
   unfolding lapsed_all

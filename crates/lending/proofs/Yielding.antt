@@ -4,7 +4,7 @@ use mathlib.Core.List.{Memᴰ}
 use Rattle.std.proofs.lemmas.Bool.{eq-eqb, ne_eqb, cases_eq, cond-true, cond-false}
 use Rattle.lending.specs.declared.lease.Lease.{Lease}
 use Rattle.shares.specs.Kind.{Kind, Laws}
-use Rattle.lending.specs.Roll.{change, close, with_share, with_holder, plus}
+use Rattle.lending.specs.Roll.{change, close, with_holder, plus, gaining}
 use Rattle.shares.proofs.Sums.{plus?, nothing, plus_join, plus_comm, plus_assoc, plus_nothing, nothing_plus}
 use Rattle.lending.proofs.Joins.{whole_rest, part_defined}
 use Rattle.lending.proofs.Totals.{total, total_nothing}
@@ -13,12 +13,8 @@ use Rattle.lending.proofs.Rolls.Changed.{changed, unchanged}
 use Rattle.lending.proofs.Invariant.{Inv, lent_from, share_in, total_parts}
 use Rattle.lending.proofs.Changes.{Like, like_same, source, lenders_change, lenders_close, lent_from_change}
 
--- p with the share of l joined to its own
-abbrev pub give : {S : Type 0} → Kind S → Lease S → Lease S → Lease S
-give K l p = with_share (plus K p.share l.share) p
-
-pub give_keeps : {S : Type 0} (K : Kind S) (l p : Lease S) → Like (give K l p) p
-give_keeps K l p = record { number = refl; resource = refl; lender = refl; due = refl }
+pub gaining_keeps : {S : Type 0} (K : Kind S) (s : S) (p : Lease S) → Like (gaining K s p) p
+gaining_keeps K s p = record { number = refl; resource = refl; lender = refl; due = refl }
 
 pub plus_is : {S : Type 0} (K : Kind S) (a b s : S) → K.join a b ≡ Some s → plus K a b ≡ s
 plus_is K a b s e = ap (λ (o : Option _). unwrap_or o a) e
@@ -47,12 +43,12 @@ module _ {S : Type 0} (K : Kind S) (L : Laws K) {roll : List (Lease S)} {issued 
       (j.0, sym (plus_join K p.share l.share) ∙ j.1, ap (λ (w : Option S). plus? K w (total K (lent_from K lt p.number) rest)) (sym j.1) ∙ b)
 
   abbrev pub after : List (Lease S)
-  after = change l.lender (give K l) rest
+  after = change l.lender (gaining K l.share) rest
 
   src : (x : Lease S) → Memᴰ x after → (y : Lease S) × Memᴰ y roll × Like x y
-  src x m = let s = source rest l.lender (give K l) (give_keeps K l) x m in (s.0, (mem_close roll l.number s.0 s.1).0, s.2)
+  src x m = let s = source rest l.lender (gaining K l.share) (gaining_keeps K l.share) x m in (s.0, (mem_close roll l.number s.0 s.1).0, s.2)
 
-  solid_after : (x : Lease S) → Changed rest l.lender (give K l) x → x.share ≡ K.empty → ⊥
+  solid_after : (x : Lease S) → Changed rest l.lender (gaining K l.share) x → x.share ≡ K.empty → ⊥
   solid_after x (changed y k e q) z =
       let my = (mem_close roll l.number y k).0 in
       let j = lender_joins y my e in
@@ -60,14 +56,14 @@ module _ {S : Type 0} (K : Kind S) (L : Laws K) {roll : List (Lease S)} {issued 
       I.solid y my (L.empty_has_no_parts y.share l.share (j.1 ∙ ap {B = Option S} Some w)).0
   solid_after x (unchanged k e) z = I.solid x (mem_close roll l.number x k).0 z
 
-  balance_after : (x : Lease S) → Changed rest l.lender (give K l) x → plus? K (Some x.share) (total K (lent_from K lt x.number) after) ≡ lt x.number
+  balance_after : (x : Lease S) → Changed rest l.lender (gaining K l.share) x → plus? K (Some x.share) (total K (lent_from K lt x.number) after) ≡ lt x.number
   balance_after x (changed y k e q) =
       let my = (mem_close roll l.number y k).0 in
       let j = lender_joins y my e in
       subst (λ (z : Lease S). plus? K (Some z.share) (total K (lent_from K lt z.number) after) ≡ lt z.number) (sym q)
-      (ap₂ (λ (s : S) (t : Option S). plus? K (Some s) t) (plus_is K y.share l.share j.0 j.1) (lent_from_change K lt y.number l.lender (give K l) (give_keeps K l) rest) ∙ j.2)
+      (ap₂ (λ (s : S) (t : Option S). plus? K (Some s) t) (plus_is K y.share l.share j.0 j.1) (lent_from_change K lt y.number l.lender (gaining K l.share) (gaining_keeps K l.share) rest) ∙ j.2)
   balance_after x (unchanged k e) =
-      ap (plus? K (Some x.share)) (lent_from_change K lt x.number l.lender (give K l) (give_keeps K l) rest
+      ap (plus? K (Some x.share)) (lent_from_change K lt x.number l.lender (gaining K l.share) (gaining_keeps K l.share) rest
       ∙ sym (lent_split x.number ∙ ap (λ (w : Option S). plus? K w (total K (lent_from K lt x.number) rest)) (cond-false (eqb l.lender x.number) (Some l.share) (nothing K) (ne_eqb l.lender x.number (λ z. e (sym z)))) ∙ nothing_plus K L (total K (lent_from K lt x.number) rest)))
       ∙ I.balance x (mem_close roll l.number x k).0
 
@@ -87,11 +83,11 @@ module _ {S : Type 0} (K : Kind S) (L : Laws K) {roll : List (Lease S)} {issued 
   whole_after : (r : ℕ) (x : Lease S) → Memᴰ x after → x.resource ≡ r → total K (share_in K r) after ≡ Some K.whole
   whole_after r x m e = let s = src x m in ⊎_elim
       (λ (z : l.lender ≡ 0).
-      let same : after ≡ rest = change_absent rest l.lender (give K l) (λ y k q. let a = rising_above 0 roll I.rising y (mem_close roll l.number y k).0 in omega arith) in
-      let mx : Memᴰ (source rest l.lender (give K l) (give_keeps K l) x m).0 rest = (source rest l.lender (give K l) (give_keeps K l) x m).1 in
-      let ex : (source rest l.lender (give K l) (give_keeps K l) x m).0.resource ≡ r = sym (source rest l.lender (give K l) (give_keeps K l) x m).2.resource ∙ e in
+      let same : after ≡ rest = change_absent rest l.lender (gaining K l.share) (λ y k q. let a = rising_above 0 roll I.rising y (mem_close roll l.number y k).0 in omega arith) in
+      let mx : Memᴰ (source rest l.lender (gaining K l.share) (gaining_keeps K l.share) x m).0 rest = (source rest l.lender (gaining K l.share) (gaining_keeps K l.share) x m).1 in
+      let ex : (source rest l.lender (gaining K l.share) (gaining_keeps K l.share) x m).0.resource ≡ r = sym (source rest l.lender (gaining K l.share) (gaining_keeps K l.share) x m).2.resource ∙ e in
       ap (total K (share_in K r)) same ∙ sym (nothing_plus K L (total K (share_in K r) rest))
-      ∙ ap (λ (w : Option S). plus? K w (total K (share_in K r) rest)) (sym (cond-false (eqb l.resource r) (Some l.share) (nothing K) (ne_eqb l.resource r (λ q. house_rest z (source rest l.lender (give K l) (give_keeps K l) x m).0 mx (ex ∙ sym q)))))
+      ∙ ap (λ (w : Option S). plus? K w (total K (share_in K r) rest)) (sym (cond-false (eqb l.resource r) (Some l.share) (nothing K) (ne_eqb l.resource r (λ q. house_rest z (source rest l.lender (gaining K l.share) (gaining_keeps K l.share) x m).0 mx (ex ∙ sym q)))))
       ∙ sym (split_close K L (share_in K r) 0 roll I.rising l ml)
       ∙ I.whole r s.0 s.1 (sym s.2.resource ∙ e))
       (λ (nz : l.lender ≡ 0 → ⊥).
@@ -99,8 +95,8 @@ module _ {S : Type 0} (K : Kind S) (L : Laws K) {roll : List (Lease S)} {issued 
       let mr : Memᴰ p.its rest = close_mem roll l.number p.its p.among (λ q. let a = p.is in let b = p.lower in omega arith) in
       let j = lender_joins p.its p.among p.is in
       let lr : plus? K (Some p.its.share) (Some l.share) ≡ Some (plus K p.its.share l.share) = plus_join K p.its.share l.share ∙ j.1 ∙ ap {B = Option S} Some (sym (plus_is K p.its.share l.share j.0 j.1)) in
-      ap (λ (n : ℕ). total K (share_in K r) (change n (give K l) rest)) (sym p.is)
-      ∙ split_change K L (share_in K r) (give K l) 0 rest (rising_keep (λ x. not (eqb x.number l.number)) 0 roll I.rising) p.its mr
+      ap (λ (n : ℕ). total K (share_in K r) (change n (gaining K l.share) rest)) (sym p.is)
+      ∙ split_change K L (share_in K r) (gaining K l.share) 0 rest (rising_keep (λ x. not (eqb x.number l.number)) 0 roll I.rising) p.its mr
       ∙ go p.its.share (total K (share_in K r) (close p.its.number rest)) lr (eqb p.its.resource r)
       ∙ sym (split_close K L (share_in K r) 0 roll I.rising l ml
       ∙ ap₂ (plus? K) (ap (λ (w : ℕ). cond (eqb w r) (Some l.share) (nothing K)) (sym p.resource)) (split_close K L (share_in K r) 0 rest (rising_keep (λ x. not (eqb x.number l.number)) 0 roll I.rising) p.its mr))
@@ -111,14 +107,14 @@ module _ {S : Type 0} (K : Kind S) (L : Laws K) {roll : List (Lease S)} {issued 
       go s t h true = ap (λ (w : Option S). plus? K w t) (sym h ∙ plus_comm K L (Some s) (Some l.share)) ∙ plus_assoc K L (Some l.share) (Some s) t
       go s t h false = sym (nothing_plus K L (plus? K (nothing K) t))
 
-  pub inv_yield : Inv K (change l.lender (give K l) (close l.number roll)) issued lt
+  pub inv_yield : Inv K (change l.lender (gaining K l.share) (close l.number roll)) issued lt
   inv_yield = record {
-    rising = rising_change l.lender (give K l) (λ x. refl) 0 rest (rising_keep (λ x. not (eqb x.number l.number)) 0 roll I.rising);
+    rising = rising_change l.lender (gaining K l.share) (λ x. refl) 0 rest (rising_keep (λ x. not (eqb x.number l.number)) 0 roll I.rising);
     within = λ x m. let s = src x m in let q = I.within s.0 s.1 in let e = s.2.number in omega arith;
-    solid = λ x m z. solid_after x (mem_change rest l.lender (give K l) x m) z;
+    solid = λ x m z. solid_after x (mem_change rest l.lender (gaining K l.share) x m) z;
     first = λ x m z. let s = src x m in ap lt s.2.number ∙ I.first s.0 s.1 (sym s.2.lender ∙ z);
-    lender = lenders_change K l.lender (give K l) (give_keeps K l) rest (lenders_close K l.number roll I.lender none);
-    balance = λ x m. balance_after x (mem_change rest l.lender (give K l) x m);
+    lender = lenders_change K l.lender (gaining K l.share) (gaining_keeps K l.share) rest (lenders_close K l.number roll I.lender none);
+    balance = λ x m. balance_after x (mem_change rest l.lender (gaining K l.share) x m);
     defined = λ x m. let s = src x m in let d = I.defined s.0 s.1 in (d.0, ap lt s.2.number ∙ d.1);
     whole = whole_after;
   }

@@ -25,10 +25,12 @@ module _ {S : Type 0} where
   abbrev pub recall_all : Kind S → State S → ℕ → Outcome S
   recall_all K s n = let ns = downward (family s.core.roll n) in answering (number (length ns)) (yields K s ns)
 
+  -- the same, or the refusal of a lease that is not live
   abbrev pub do_recall : Kind S → State S → ℕ → Outcome S
   do_recall K s n = unless 0 ((not (live s.core.roll n), 6) ∷ []) (recall_all K s n)
 
-  -- yields every lease due by the day from the highest number down, then sets the day, and answers how many it closed
+  -- yields every lease due by the day from the highest number down, then sets the day, and answers how many it closed;
+  -- a bad day is refused before any yield
   abbrev pub do_day : Kind S → State S → ℕ → Outcome S
   do_day K s d =
       let ns = downward (filter (due_by d) s.core.roll) in

@@ -1,11 +1,11 @@
 -- Lists of calls to an office: what each lease was lent, and what was closed by which calls.
 use Rattle.std.specs.Prelude.{◌≡◌, ℕ, ◌+◌, if◌then◌else◌, not, ◌&&◌, List, [], ◌∷◌, Some, None, Option, ◌==◌}
 use Rattle.shares.specs.Kind.{Kind, bind}
-use Rattle.lending.specs.Office.{State}
+use Rattle.lending.specs.Office.{State, SetUp}
 use Rattle.lending.specs.Roll.{find, live}
 use Rattle.lending.specs.Outcome.{Call, Answer}
-use Rattle.lending.specs.Outcome.Call.{open_resource, delegate, yield, merge, assign, new_day, ask_count, ask_issued, ask_today, ask_lease_at, ask_lease, recall, day, standing, hand_in}
-use Rattle.lending.specs.Outcome.Answer.{done, number, lease, share, refused}
+use Rattle.lending.specs.Outcome.Call.{open_resource, delegate, yield, merge, recall, day, hand_in}
+use Rattle.lending.specs.Outcome.Answer.{done, number}
 use Rattle.lending.specs.Perform.{Does}
 
 -- One call of a list of calls, with the state that it came to and its answer.
@@ -18,28 +18,24 @@ pub record Moment (S : Type 0) : Type 0 where
 pub data Closing : Type 0 where
   by_yield by_merge by_recall by_day by_none : Closing
 
+-- recalls and hand-ins close by recalls, and a call that is not named here closes nothing
 abbrev pub closing : Call → Closing
-closing (open_resource r h) = by_none
-closing (delegate p h d) = by_none
 closing (yield n) = by_yield
 closing (merge a b) = by_merge
-closing (assign n h) = by_none
-closing (new_day d) = by_none
-closing ask_count = by_none
-closing ask_issued = by_none
-closing ask_today = by_none
-closing (ask_lease_at i) = by_none
-closing (ask_lease n) = by_none
 closing (recall n) = by_recall
-closing (day d) = by_day
-closing (standing r h) = by_none
 closing (hand_in n) = by_recall
+closing (day d) = by_day
+closing c = by_none
 
 module _ {S : Type 0} where
   -- A list of calls, the last one first, each made to the state that the one before it left, leads from start to t.
   abbrev pub Leads : Kind S → State S → List (Moment S) → State S → Type 0
   Leads K start [] t = t ≡ start
   Leads K start (m ∷ ms) t = Leads K start ms m.before × Does K m.before m.call m.answer t
+
+  -- However s was reached: so it is of every list of calls that led to s from an office that was set up empty.
+  abbrev pub HoweverReached : Kind S → State S → (List (Moment S) → Type 0) → Type 0
+  HoweverReached K s Of = (start : State S) → SetUp start → (ms : List (Moment S)) → Leads K start ms s → Of ms
 
   -- of each state to which a call of the list came
   abbrev pub EachCameTo : (State S → Type 0) → List (Moment S) → Type 0
@@ -48,43 +44,36 @@ module _ {S : Type 0} where
 
   -- by the number that was answered; otherwise x
   abbrev pub if_number : {X : Type 0} → Answer S → (ℕ → X) → X → X
-  if_number done f x = x
   if_number (number n) f x = f n
-  if_number (lease l) f x = x
-  if_number (share s) f x = x
-  if_number (refused r) f x = x
+  if_number a f x = x
 
   -- y if the call was granted without an answer; otherwise x
   abbrev pub if_done : {X : Type 0} → Answer S → X → X → X
   if_done done y x = y
-  if_done (number n) y x = x
-  if_done (lease l) y x = x
-  if_done (share s) y x = x
-  if_done (refused r) y x = x
+  if_done a y x = x
 
   -- the half that the lender of this number lends in this state
   abbrev pub half_lent : Kind S → State S → ℕ → Option S
   half_lent K s p = bind (find s.core.roll p) (λ l. bind (K.halve l.share) (λ h. Some h.1))
 
-  -- what lease n was lent after the call, by what each lease was lent before it
-  abbrev pub lent_by : Kind S → State S → Call → Answer S → (ℕ → Option S) → ℕ → Option S
-  lent_by K s (open_resource r h) a earlier n = if_number a (λ k. if k == n then Some K.whole else earlier n) (earlier n)
-  lent_by K s (delegate p h d) a earlier n = if_number a (λ k. if k == n then half_lent K s p else earlier n) (earlier n)
-  lent_by K s (yield l) a earlier n = earlier n
-  lent_by K s (merge x y) a earlier n = if_done a (if x == n then bind (earlier x) (λ u. bind (earlier y) (λ v. K.join u v)) else earlier n) (earlier n)
-  lent_by K s (assign l h) a earlier n = earlier n
-  lent_by K s (new_day d) a earlier n = earlier n
-  lent_by K s ask_count a earlier n = earlier n
-  lent_by K s ask_issued a earlier n = earlier n
-  lent_by K s ask_today a earlier n = earlier n
-  lent_by K s (ask_lease_at i) a earlier n = earlier n
-  lent_by K s (ask_lease l) a earlier n = earlier n
-  lent_by K s (recall l) a earlier n = earlier n
-  lent_by K s (day d) a earlier n = earlier n
-  lent_by K s (standing r h) a earlier n = earlier n
-  lent_by K s (hand_in l) a earlier n = earlier n
+  -- both shares joined; None where there are not two, or where they don't join
+  abbrev pub both_joined : Kind S → Option S → Option S → Option S
+  both_joined K x y = bind x (λ a. bind y (λ b. K.join a b))
 
-  -- What lease n was lent: the whole, or the half that delegate lent, joined with what each lease merged into it was lent.
+  -- What lease n was lent after the call, by what each lease was lent before it. A new lease was lent the whole or a
+  -- half, and a lease into which another was merged was lent what both were. No other call changes what a lease was
+  -- lent.
+  abbrev pub lent_by : Kind S → State S → Call → Answer S → (ℕ → Option S) → ℕ → Option S
+  lent_by K s (open_resource r h) answer earlier n =
+      if_number answer (λ k. if k == n then Some K.whole else earlier n) (earlier n)
+  lent_by K s (delegate p h d) answer earlier n =
+      if_number answer (λ k. if k == n then half_lent K s p else earlier n) (earlier n)
+  lent_by K s (merge a b) answer earlier n =
+      if_done answer (if a == n then both_joined K (earlier a) (earlier b) else earlier n) (earlier n)
+  lent_by K s c answer earlier n = earlier n
+
+  -- What lease n was lent: the whole, or the half that delegate lent, joined with what each lease merged into it was
+  -- lent.
   abbrev pub lent : Kind S → List (Moment S) → ℕ → Option S
   lent K [] n = None
   lent K (m ∷ ms) n = lent_by K m.before m.call m.answer (lent K ms) n
@@ -97,6 +86,7 @@ module _ {S : Type 0} where
   tally yields merges recalls days by_day a = days a
   tally yields merges recalls days by_none a = 0
 
+  -- nothing
   abbrev pub none : Answer S → ℕ
   none a = 0
 
@@ -108,6 +98,7 @@ module _ {S : Type 0} where
   abbrev pub its_number : Answer S → ℕ
   its_number a = if_number a (λ n. n) 0
 
+  -- a tally over a list of calls
   abbrev pub summed : (Closing → Answer S → ℕ) → List (Moment S) → ℕ
   summed f [] = 0
   summed f (m ∷ ms) = f (closing m.call) m.answer + summed f ms

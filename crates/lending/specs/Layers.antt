@@ -6,8 +6,8 @@ use Rattle.lending.specs.Limits.{most_layers}
 use Rattle.lending.specs.Office.{Refusal, Request, Core, State}
 use Rattle.lending.specs.Office.Request.{opening, delegating, assigning}
 use Rattle.lending.specs.Outcome.{Call, Answer}
-use Rattle.lending.specs.Outcome.Call.{open_resource, delegate, yield, merge, assign, new_day, ask_count, ask_issued, ask_today, ask_lease_at, ask_lease, recall, day, standing, hand_in}
-use Rattle.lending.specs.Outcome.Answer.{done, number, lease, share, refused}
+use Rattle.lending.specs.Outcome.Call.{open_resource, delegate, assign, recall, day, standing, hand_in}
+use Rattle.lending.specs.Outcome.Answer.{refused}
 use Rattle.lending.specs.Perform.{Does}
 
 -- a refusal's number where a test says so
@@ -28,23 +28,16 @@ own_or_raised (Some n) below = Some (record { number = n; level = 0 })
 own_or_raised None None = None
 own_or_raised None (Some r) = Some (raise r)
 
--- The layer has no objection of its own to the call. (The calls that stand over an office are none of a layer's.)
+-- The layer has no objection of its own to the call. The calls that stand over an office are none of a layer's.
 abbrev pub Passes : (Request → Option ℕ) → Call → Type 0
 Passes mine (open_resource r h) = mine (opening r h) ≡ None
 Passes mine (delegate p h d) = mine (delegating p h d) ≡ None
-Passes mine (yield n) = Unit {0}
-Passes mine (merge a b) = Unit {0}
 Passes mine (assign n h) = mine (assigning n h) ≡ None
-Passes mine (new_day d) = Unit {0}
-Passes mine ask_count = Unit {0}
-Passes mine ask_issued = Unit {0}
-Passes mine ask_today = Unit {0}
-Passes mine (ask_lease_at i) = Unit {0}
-Passes mine (ask_lease n) = Unit {0}
 Passes mine (recall n) = ⊥
 Passes mine (day d) = ⊥
 Passes mine (standing r h) = ⊥
 Passes mine (hand_in n) = ⊥
+Passes mine c = Unit {0}
 
 -- What a layer does of its own.
 pub record Own (S : Type 0) : Type 0 where
@@ -67,9 +60,9 @@ module _ {S : Type 0} where
 
   -- all but the objections, of a layer: it is one deeper
   abbrev pub deeper : Core S → Core S
-  deeper c = record { roll = c.roll; issued = c.issued; today = c.today; capacity = c.capacity; depth = c.depth + 1 }
+  deeper c = record c { depth = c.depth + 1 }
 
-  -- What a layer stands for over an office that stands for s. What it objects to itself it tells by the roll and today.
+  -- What a layer stands for over an office that stands for s. Its own objections follow from the roll and today.
   abbrev pub layered : Own S → State S → State S
   layered mine s =
       record {
@@ -84,13 +77,12 @@ module _ {S : Type 0} where
 
   -- an answer as a layer passes it up
   abbrev pub passed_up : Answer S → Answer S
-  passed_up done = done
-  passed_up (number n) = number n
-  passed_up (lease l) = lease l
-  passed_up (share s) = share s
   passed_up (refused r) = refused (raise r)
+  passed_up a = a
 
-  -- A layer is an office: where it has no objection of its own, what the office below does, passed up, is what an office
-  -- does that stands for the layered state.
+  -- A layer is an office: where it has no objection of its own, what the office below does, passed up, is what an
+  -- office does that stands for the layered state.
   abbrev pub LayerIsOffice : Kind S → Type 0
-  LayerIsOffice K = (mine : Own S) (s t : State S) (c : Call) (a : Answer S) → Passes (mine.objects s.core.roll s.core.today) c → Does K s c a t → Does K (layered mine s) c (passed_up a) (layered mine t)
+  LayerIsOffice K = (mine : Own S) (s t : State S) (c : Call) (a : Answer S)
+      → Passes (mine.objects s.core.roll s.core.today) c → Does K s c a t
+      → Does K (layered mine s) c (passed_up a) (layered mine t)

@@ -1,5 +1,6 @@
 -- What every office stands for.
 use Rattle.std.specs.Prelude.{◌≡◌, ℕ, ◌+◌, List, [], ◌∷◌, ◌++◌, None, Option}
+use Rattle.shares.specs.Kind.{Kind}
 use Rattle.lending.specs.declared.lease.Lease.{Lease}
 
 -- Level 0 is the office called; each office that passes a refusal up adds 1.
@@ -38,19 +39,29 @@ module _ {S : Type 0} where
     pub none_issued : s.core.issued ≡ 0
     pub first_day : s.core.today ≡ 0
 
+  -- a row as it is before a ledger uses it
+  abbrev pub free_lease : Kind S → Lease S
+  free_lease K = record { number = 0; resource = 0; holder = 0; lender = 0; due = 0; share = K.empty }
+
   -- a ledger of so many rows as it is set up: an office without layers
   abbrev pub new_ledger : ℕ → State S
-  new_ledger rows = record { core = record { roll = []; issued = 0; today = 0; capacity = rows; depth = 0 }; objections = λ q. None }
+  new_ledger rows =
+      record {
+        core = record { roll = []; issued = 0; today = 0; capacity = rows; depth = 0 };
+        objections = λ q. None;
+      }
 
-  -- a state with one thing changed
+  -- A state with one thing changed: with another roll,
   abbrev pub with_roll : List (Lease S) → State S → State S
-  with_roll roll s = record { core = record { roll = roll; issued = s.core.issued; today = s.core.today; capacity = s.core.capacity; depth = s.core.depth }; objections = s.objections }
+  with_roll roll s = record s { core = record (s.core) { roll = roll } }
 
+  -- with another count of numbers issued,
   abbrev pub with_issued : ℕ → State S → State S
-  with_issued n s = record { core = record { roll = s.core.roll; issued = n; today = s.core.today; capacity = s.core.capacity; depth = s.core.depth }; objections = s.objections }
+  with_issued n s = record s { core = record (s.core) { issued = n } }
 
+  -- and with another day.
   abbrev pub with_today : ℕ → State S → State S
-  with_today d s = record { core = record { roll = s.core.roll; issued = s.core.issued; today = d; capacity = s.core.capacity; depth = s.core.depth }; objections = s.objections }
+  with_today d s = record s { core = record (s.core) { today = d } }
 
   -- the next number is issued to a new lease, which stands last
   abbrev pub issue : Lease S → State S → State S

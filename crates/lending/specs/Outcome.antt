@@ -5,7 +5,7 @@ use Rattle.lending.specs.declared.lease.Lease.{Lease}
 use Rattle.lending.specs.Limits.{most_layers}
 use Rattle.lending.specs.Office.{Refusal, State}
 
--- The calls of every office, its questions, and the calls that stand over any office.
+-- The calls of every office; its questions, and the calls that stand over any office, from recall on.
 pub data Call : Type 0 where
   open_resource : (resource holder : ℕ) → Call
   delegate : (lender holder due : ℕ) → Call
@@ -24,6 +24,7 @@ pub data Call : Type 0 where
   -- hand in a slip that was drawn for the lease
   hand_in : (lease : ℕ) → Call
 
+-- What a call answers: nothing, a number, a lease, a share or a refusal.
 pub data Answer (S : Type 0) : Type 0 where
   done : Answer S
   number : ℕ → Answer S
@@ -37,8 +38,8 @@ pub data Outcome (S : Type 0) : Type 0 where
   tells : Answer S → Outcome S
   grants : Answer S → State S → Outcome S
 
--- An office of this depth refuses with this number: the level is the depth. Nobody piles more than 255 layers, and there the
--- levels end.
+-- An office of this depth refuses with this number: the level is the depth. Nobody piles more than 255 layers, and
+-- there the levels end.
 abbrev pub refused_at : ℕ → ℕ → Refusal
 refused_at depth n = record { number = n; level = min depth most_layers }
 
@@ -75,9 +76,8 @@ module _ {S : Type 0} where
 
   -- after a granted call go on with what the office then stands for; a refusal ends it
   abbrev pub and_then : Outcome S → (State S → Outcome S) → Outcome S
-  and_then (refuses r) f = refuses r
-  and_then (tells a) f = tells a
   and_then (grants a s) f = f s
+  and_then o f = o
 
   -- what was granted, with another answer
   abbrev pub answering : Answer S → Outcome S → Outcome S

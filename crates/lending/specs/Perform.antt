@@ -6,7 +6,9 @@ use Rattle.shares.specs.Kind.{Kind}
 use Rattle.lending.specs.Office.{State}
 use Rattle.lending.specs.Roll.{find}
 use Rattle.lending.specs.Outcome.{Call, Answer, Outcome, need_live, tell_at}
-use Rattle.lending.specs.Outcome.Call.{open_resource, delegate, yield, merge, assign, new_day, ask_count, ask_issued, ask_today, ask_lease_at, ask_lease, recall, day, standing, hand_in}
+use Rattle.lending.specs.Outcome.Call.{open_resource, delegate, yield, merge, assign, new_day}
+use Rattle.lending.specs.Outcome.Call.{ask_count, ask_issued, ask_today, ask_lease_at, ask_lease}
+use Rattle.lending.specs.Outcome.Call.{recall, day, standing, hand_in}
 use Rattle.lending.specs.Outcome.Answer.{number, lease, share, refused}
 use Rattle.lending.specs.Outcome.Outcome.{refuses, tells, grants}
 use Rattle.lending.specs.Calls.{do_open, do_delegate, do_yield, do_merge, do_assign, do_set_day}
@@ -28,7 +30,8 @@ module _ {S : Type 0} where
   perform K s (ask_lease n) = need_live s.core.depth (find s.core.roll n) (λ l. tells (lease l))
   perform K s (recall n) = do_recall K s n
   perform K s (day d) = do_day K s d
-  perform K s (standing resource holder) = tells (share (unwrap_or (standing_of K s.core.roll resource holder) K.empty))
+  perform K s (standing resource holder) =
+      tells (share (unwrap_or (standing_of K s.core.roll resource holder) K.empty))
   perform K s (hand_in n) = do_hand_in K s n
 
   -- A call that ends so gives the answer a and leaves t of s: after a granted call the objections may be any.

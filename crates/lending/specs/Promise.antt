@@ -10,7 +10,7 @@ use Rattle.lending.specs.Outcome.{Call, Answer}
 use Rattle.lending.specs.Outcome.Call.{recall, standing}
 use Rattle.lending.specs.Outcome.Answer.{number, share}
 use Rattle.lending.specs.Perform.{Does}
-use Rattle.lending.specs.History.{Moment, Leads, lent, yielded, merged, recalled, lapsed, closings}
+use Rattle.lending.specs.History.{Moment, Leads, HoweverReached, lent, yielded, merged, recalled, lapsed, closings}
 
 module _ {S : Type 0} where
   -- the lease is on the roll
@@ -43,28 +43,35 @@ module _ {S : Type 0} where
 
   -- What holds of the state t to which a list of calls led.
   pub record Conserved (K : Kind S) (ms : List (Moment S)) (t : State S) : Type 0 where
-    -- (a) A live lease and all live leases under it join, in every order and grouping, to exactly what that lease was lent.
-    pub joins : (l : Lease S) → Live t l → (s : S) × (lent K ms l.number ≡ Some s) × JoinTo K (map (λ x. x.share) (family t.core.roll l.number)) s
+    -- (a) A live lease and all live leases under it join, in every order and grouping, to exactly what that lease was
+    -- lent.
+    pub joins : (l : Lease S) → Live t l
+        → (s : S) × (lent K ms l.number ≡ Some s) × JoinTo K (map (λ x. x.share) (family t.core.roll l.number)) s
     -- A first lease was lent the whole.
     pub first : (l : Lease S) → Live t l → l.lender ≡ 0 → lent K ms l.number ≡ Some K.whole
     -- (b) A holder's standing in an open resource is the whole exactly when nobody else has a lease of it.
-    pub writes : (resource holder : ℕ) → Open t resource → (a : Answer S) (u : State S) → Does K t (standing resource holder) a u → (a ≡ share K.whole) ↔ NobodyElse t resource holder
+    pub writes : (resource holder : ℕ) → Open t resource → (a : Answer S) (u : State S)
+        → Does K t (standing resource holder) a u → (a ≡ share K.whole) ↔ NobodyElse t resource holder
     -- (c) Every issued number is either live or was closed just once,
-    pub once : (n : ℕ) → 1 ≤ n → n ≤ t.core.issued → ((live t.core.roll n ≡ true) × (closings ms t n ≡ 0)) ⊎ ((live t.core.roll n ≡ false) × (closings ms t n ≡ 1))
+    pub once : (n : ℕ) → 1 ≤ n → n ≤ t.core.issued
+        → ((live t.core.roll n ≡ true) × (closings ms t n ≡ 0))
+        ⊎ ((live t.core.roll n ≡ false) × (closings ms t n ≡ 1))
     -- and so the counts add up.
     pub counts : t.core.issued ≡ length t.core.roll + yielded ms + merged ms + recalled ms + lapsed ms
     -- A live lease's recall is granted, and its lender gains exactly what that lease was lent.
-    pub recalls : (l : Lease S) → Live t l → (a : Answer S) (u : State S) → Does K t (recall l.number) a u → (s : S) × (lent K ms l.number ≡ Some s) × Returned K t u l s a
+    pub recalls : (l : Lease S) → Live t l → (a : Answer S) (u : State S) → Does K t (recall l.number) a u
+        → (s : S) × (lent K ms l.number ≡ Some s) × Returned K t u l s a
 
   -- The promise for this kind of share: after every list of calls to an office that was set up empty.
   abbrev pub LendingConserved : Kind S → Type 0
-  LendingConserved K = (start t : State S) → SetUp start → (ms : List (Moment S)) → Leads K start ms t → Conserved K ms t
+  LendingConserved K = (start t : State S) → SetUp start
+      → (ms : List (Moment S)) → Leads K start ms t → Conserved K ms t
 
-  -- The promise at one call: whatever list of calls led to s from an office that was set up empty, it holds of that list
-  -- with this call.
+  -- The promise at one call: however s was reached, it holds of the calls that led there with this one.
   pub record CallConserves (K : Kind S) (s : State S) (c : Call) (a : Answer S) (t : State S) : Type 0 where
-    pub after : (start : State S) → SetUp start → (ms : List (Moment S)) → Leads K start ms s → Conserved K (record { before = s; call = c; answer = a } ∷ ms) t
+    pub after : HoweverReached K s (λ ms. Conserved K (record { before = s; call = c; answer = a } ∷ ms) t)
 
   -- The promise holds at every call that an office makes as it should.
   abbrev pub EveryCallConserves : Kind S → Type 0
-  EveryCallConserves K = (s : State S) (c : Call) (a : Answer S) (t : State S) → Does K s c a t → CallConserves K s c a t
+  EveryCallConserves K = (s : State S) (c : Call) (a : Answer S) (t : State S)
+      → Does K s c a t → CallConserves K s c a t

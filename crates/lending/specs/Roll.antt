@@ -1,5 +1,6 @@
 -- The roll: the live leases by rising number.
-use Rattle.std.specs.Prelude.{ℕ, zero, suc, ◌<◌, Bool, if◌then◌else◌, not, ◌&&◌, ◌||◌, List, [], ◌∷◌, map, length, is_some, Some, None, Option, ◌==◌, nat_eq}
+use Rattle.std.specs.Prelude.{ℕ, zero, suc, ◌<◌, ◌==◌, nat_eq, Bool, if◌then◌else◌, not, ◌&&◌, ◌||◌}
+use Rattle.std.specs.Prelude.{List, [], ◌∷◌, map, length, Option, Some, None, is_some}
 use Rattle.std.specs.List.{filter, list_any}
 use Rattle.std.specs.Option.{unwrap_or}
 use Rattle.shares.specs.Kind.{Kind}
@@ -16,6 +17,7 @@ module _ {S : Type 0} where
   find [] n = None
   find (l ∷ ls) n = if l.number == n then Some l else find ls n
 
+  -- a live lease has the number
   abbrev pub live : List (Lease S) → ℕ → Bool
   live roll n = is_some (find roll n)
 
@@ -37,6 +39,7 @@ module _ {S : Type 0} where
   abbrev pub above : List (Lease S) → ℕ → List ℕ
   above roll n = lenders n roll n
 
+  -- how many leases are above lease n
   abbrev pub height : List (Lease S) → ℕ → ℕ
   height roll n = length (above roll n)
 
@@ -58,17 +61,20 @@ module _ {S : Type 0} where
 
   -- the shares that a holder has of a resource
   abbrev pub shares_of : List (Lease S) → ℕ → ℕ → List S
-  shares_of roll resource holder = map (λ l. l.share) (filter (λ l. (l.resource == resource) && l.holder == holder) roll)
+  shares_of roll resource holder =
+      map (λ l. l.share) (filter (λ l. (l.resource == resource) && l.holder == holder) roll)
 
-  -- a lease with one thing changed
+  -- A lease with one thing changed: with another share,
   abbrev pub with_share : S → Lease S → Lease S
-  with_share s l = record { number = l.number; resource = l.resource; holder = l.holder; lender = l.lender; due = l.due; share = s }
+  with_share s l = record l { share = s }
 
+  -- with another holder,
   abbrev pub with_holder : ℕ → Lease S → Lease S
-  with_holder h l = record { number = l.number; resource = l.resource; holder = h; lender = l.lender; due = l.due; share = l.share }
+  with_holder h l = record l { holder = h }
 
+  -- and with another lender.
   abbrev pub with_lender : ℕ → Lease S → Lease S
-  with_lender p l = record { number = l.number; resource = l.resource; holder = l.holder; lender = p; due = l.due; share = l.share }
+  with_lender p l = record l { lender = p }
 
   -- the roll with lease n changed by f
   abbrev pub change : ℕ → (Lease S → Lease S) → List (Lease S) → List (Lease S)
@@ -82,6 +88,10 @@ module _ {S : Type 0} where
   abbrev pub relend : ℕ → ℕ → List (Lease S) → List (Lease S)
   relend a b roll = map (λ l. if l.lender == b then with_lender a l else l) roll
 
-  -- The two shares joined; where they don't join, the first. That no call comes to the latter is part of what is proved.
+  -- The two shares joined; where they don't join, the first. It is proved that no call comes to the latter.
   abbrev pub plus : Kind S → S → S → S
   plus K a b = unwrap_or (K.join a b) a
+
+  -- a lease with s joined to its share
+  abbrev pub gaining : Kind S → S → Lease S → Lease S
+  gaining K s l = with_share (plus K l.share s) l

@@ -1,5 +1,5 @@
-//! Lending by leases: what an office stands for, what each call does to it, and the promise that nobody who lends through
-//! an office gets back more or less than went out.
+//! Lending by leases: what an office stands for, what each call does to it, and the promise that nobody who lends
+//! through an office gets back more or less than went out.
 #![tactic(auto)]
 
 mod join;

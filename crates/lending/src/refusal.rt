@@ -3,7 +3,8 @@ ghost use Rattle.lending.specs.Answers.{reason_number, refused_here, raised_refu
 
 use thiserror::Error;
 
-/// Why a call was refused, with the number by which everybody knows the reason.
+/// Why a call was refused, with the number by which everybody knows the reason: 1 to 15 are every office's, 21 to 23
+/// are the layers'.
 #[derive(Clone, Copy, PartialEq, Eq, Debug, Drop, Error)]
 pub enum Reason {
     #[error("the resource is not from 1 to 999")]
@@ -45,7 +46,7 @@ pub enum Reason {
 }
 
 impl Reason {
-    /// Its number.
+    /// Its number, from 1 to 23.
     pub fn number(self) -> u8
         ensures { result ≡ reason_number self }
     {
@@ -53,10 +54,11 @@ impl Reason {
     }
 }
 
-/// A refusal, and how many offices have passed it up since: level 0 is the office called.
+/// A refusal, and how many offices have passed it up since.
 #[derive(Clone, Copy, PartialEq, Eq, Debug, Drop)]
 pub struct Refusal {
     pub reason: Reason,
+    /// 0 is the office called; each office that passes the refusal up adds 1, but none is above 255.
     pub level: u8,
 }
 
@@ -70,7 +72,7 @@ impl From<Reason> for Refusal {
 }
 
 impl Refusal {
-    /// The refusal as the next office passes it up. Nobody piles more than 255 layers, so no level is above 255.
+    /// The refusal as the next office passes it up. Level 255 stays, since nobody piles more than 255 layers.
     pub fn raised(self) -> Refusal
         ensures { result ≡ raised_refusal self }
     {
