@@ -31,8 +31,7 @@ pub fn day<O: Office>(office: &mut O, day: u16) -> Result<usize, Refusal>
 #[tactic(auto, using(crate::proofs::Closing::day_came))]
 fn move_to<O: Office>(office: &mut O, day: u16) -> usize
     requires { bad_day (O.meaning office.old) day ≡ false }
-    ensures does { Does O.Kind.kind (O.meaning office.old) (next_day day) (number result) (O.meaning office.new) }
-    ensures keeps { Keeps O.Office office.old office.new }
+    ensures performs { Performs O.Kind.kind O.Office (next_day day) (number result) office.old office.new }
 {
     let numbers = due_of(office, day);
     yield_down(office, numbers.as_slice());
@@ -47,7 +46,7 @@ fn due_of<O: Office>(office: &O, day: u16) -> Numbers
 {
     let mut numbers = Numbers::new();
     for lease in leases(office) {
-        if lease.due <= day {
+        if lease.falls_due_by(day) {
             numbers.push(lease.number);
         }
     }

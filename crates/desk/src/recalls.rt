@@ -32,8 +32,7 @@ pub fn recall<O: Office>(office: &mut O, lease: u16) -> Result<usize, Refusal>
 #[tactic(auto, using(crate::proofs::Closing::recalled))]
 fn take_back<O: Office>(office: &mut O, lease: u16) -> usize
     requires { live (O.meaning office.old).core.roll lease ≡ true }
-    ensures does { Does O.Kind.kind (O.meaning office.old) (recall lease) (number result) (O.meaning office.new) }
-    ensures keeps { Keeps O.Office office.old office.new }
+    ensures performs { Performs O.Kind.kind O.Office (recall lease) (number result) office.old office.new }
 {
     let numbers = family_of(office, lease);
     yield_down(office, numbers.as_slice());

@@ -61,9 +61,8 @@ impl Slip {
 // Recalls a lease if it is live, and answers how many leases that closed, else 0.
 #[tactic(auto, using(crate::proofs::Closing::handed_in, crate::proofs::Closing::idle_hand_in))]
 fn recall_if_live<O: Office>(office: &mut O, lease: u16) -> usize
-    ensures does { Does O.Kind.kind (O.meaning office.old) (hand_in lease) (number result) (O.meaning office.new) }
+    ensures performs { Performs O.Kind.kind O.Office (hand_in lease) (number result) office.old office.new }
     ensures idle { idle (perform O.Kind.kind (O.meaning office.old) (hand_in lease)) ≡ true → office.new ≡ office.old }
-    ensures keeps { Keeps O.Office office.old office.new }
 {
     recall(office, lease).unwrap_or(0)
 }

@@ -103,7 +103,7 @@ impl<'a, S: Share> Ledger<'a, S> {
     fn falls_due(&self, day: u16) -> bool
         ensures { result ≡ list_any (due_by day) (means self.now).core.roll }
     {
-        self.roll().iter().any(|lease| lease.due <= day)
+        self.roll().iter().any(|lease| lease.falls_due_by(day))
     }
 
     // Whether a live lease has this one for its lender. Its number is higher, so that it stands further on.

@@ -76,8 +76,9 @@ module _ {S : Type 0} where
 
   -- after a granted call go on with what the office then stands for; a refusal ends it
   abbrev pub and_then : Outcome S → (State S → Outcome S) → Outcome S
+  and_then (refuses r) f = refuses r
+  and_then (tells a) f = tells a
   and_then (grants a s) f = f s
-  and_then o f = o
 
   -- what was granted, with another answer
   abbrev pub answering : Answer S → Outcome S → Outcome S

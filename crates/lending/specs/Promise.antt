@@ -10,7 +10,7 @@ use Rattle.lending.specs.Outcome.{Call, Answer}
 use Rattle.lending.specs.Outcome.Call.{recall, standing}
 use Rattle.lending.specs.Outcome.Answer.{number, share}
 use Rattle.lending.specs.Perform.{Does}
-use Rattle.lending.specs.History.{Moment, Leads, HoweverReached, lent, yielded, merged, recalled, lapsed, closings}
+use Rattle.lending.specs.History.{Moment, Leads, lent, yielded, merged, recalled, lapsed, closings}
 
 module _ {S : Type 0} where
   -- the lease is on the roll
@@ -69,7 +69,8 @@ module _ {S : Type 0} where
 
   -- The promise at one call: however s was reached, it holds of the calls that led there with this one.
   pub record CallConserves (K : Kind S) (s : State S) (c : Call) (a : Answer S) (t : State S) : Type 0 where
-    pub after : HoweverReached K s (λ ms. Conserved K (record { before = s; call = c; answer = a } ∷ ms) t)
+    pub after : (start : State S) → SetUp start → (ms : List (Moment S)) → Leads K start ms s
+        → Conserved K (record { before = s; call = c; answer = a } ∷ ms) t
 
   -- The promise holds at every call that an office makes as it should.
   abbrev pub EveryCallConserves : Kind S → Type 0

@@ -1,5 +1,5 @@
 -- What a line call answers, and what it leaves in its space.
-use Rattle.std.specs.Prelude.{ℕ, List, length, Some, None, Option, Ok, Err, Result, nat_le, if◌then◌else◌}
+use Rattle.std.specs.Prelude.{◌≡◌, ℕ, List, length, Some, None, Option, Ok, Err, Result, nat_le, if◌then◌else◌}
 use Rattle.shares.specs.Text.{in_front}
 use Rattle.lending.specs.Office.{Refusal}
 use Rattle.lines.specs.declared.reason.LineReason.{LineReason}
@@ -25,3 +25,8 @@ line_answer (Some line) space =
 abbrev pub space_after : Option (List ℕ) → List ℕ → List ℕ
 space_after None space = space
 space_after (Some line) space = if nat_le (length line) (length space) then in_front line space else space
+
+-- What a line call did with its line, if there is one: its answer, and the space before and after.
+pub record WritesLine (line : Option (List ℕ)) (before after : List ℕ) (result : Result ℕ LineReason) : Type 0 where
+  pub answers : line_written result ≡ line_answer line before
+  pub leaves : after ≡ space_after line before

@@ -1,4 +1,4 @@
--- The lines of a printout. Their fields are parted by one blank, and each line ends with a newline.
+-- The lines of a printout. One blank stands between two fields, and each line ends with a newline.
 use Rattle.std.specs.Prelude.{ℕ, ◌≤◌, Bool, if◌then◌else◌, List, ◌++◌, length, slice_get, codes, decimal, Some, None, Option}
 use Rattle.std.specs.Option.{option_map, unwrap_or}
 use Rattle.shares.specs.Kind.{Kind}
@@ -7,6 +7,7 @@ use Rattle.lending.specs.Office.{State}
 use Rattle.lending.specs.Above.{standing_of}
 use Rattle.lending.specs.Promise.{Live}
 use Rattle.lending.specs.Effects.{MayWrite}
+use Rattle.lines.specs.declared.line.TheConstants.{LONGEST_LINE}
 use Rattle.lines.specs.declared.line.totals.Totals.{Totals}
 
 -- a number in decimal, and a blank
@@ -51,7 +52,7 @@ module _ {S : Type 0} where
 
   -- No live lease has a line of more than 219 bytes.
   abbrev pub LinesAreShort : Kind S → (S → List ℕ) → State S → Type 0
-  LinesAreShort K text s = (l : Lease S) → Live s l → length (lease_line K text s.core.roll l) ≤ 219
+  LinesAreShort K text s = (l : Lease S) → Live s l → length (lease_line K text s.core.roll l) ≤ LONGEST_LINE
 
   -- The line of each live lease has a `w` exactly if its holder may write.
   abbrev pub LettersTell : Kind S → State S → Type 0

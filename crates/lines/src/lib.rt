@@ -8,6 +8,7 @@
 mod line;
 mod reason;
 
+pub use line::LONGEST_LINE;
 pub use line::leases::lease_line;
 pub use line::refusals::refusal_line;
 pub use line::totals::{Totals, total_line};

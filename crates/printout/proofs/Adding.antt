@@ -15,7 +15,8 @@ use Rattle.lines.specs.Lines.{line_at, lease_line, LinesAreShort}
 use Rattle.replay.specs.declared.fault.Fault.{Fault}
 use Rattle.replay.specs.Faults.{refused_event}
 use Rattle.printout.specs.Readable.{ReadableRefusal}
-use Rattle.printout.specs.Contents.{line_of_refusal, refusal_lines, lease_entry, lease_lines}
+use Rattle.printout.specs.Contents.{line_of_refusal, lease_entry}
+use Rattle.printout.proofs.Bytes.{refusal_bytes, lease_bytes}
 
 module _ {A : Type 0} where
   -- what is at a position within a list
@@ -85,16 +86,16 @@ module _ {S : Type 0} (K : Kind S) (text : S → List ℕ) (roll : List (Lease S
 
   -- the lines from a position on
   abbrev pub lines_from : ℕ → List ℕ
-  lines_from i = lease_lines (map (lease_entry K text roll) (drop i roll))
+  lines_from i = lease_bytes (map (lease_entry K text roll) (drop i roll))
 
   -- of which that there is the first
   pub first_line : (i : ℕ) → i < length roll → line_there i ++ lines_from (i + 1) ≡ lines_from i
   first_line i l =
       let x = drop_at roll i l in
-      ap (λ (o : Option (Lease S)). unwrap_or (option_map (lease_line K text roll) o) [] ++ lines_from (i + 1)) x.1 ∙ ap (λ (ls : List (Lease S)). lease_lines (map (lease_entry K text roll) ls)) (sym x.2)
+      ap (λ (o : Option (Lease S)). unwrap_or (option_map (lease_line K text roll) o) [] ++ lines_from (i + 1)) x.1 ∙ ap (λ (ls : List (Lease S)). lease_bytes (map (lease_entry K text roll) ls)) (sym x.2)
 
   pub no_lines : (i : ℕ) → length roll ≤ i → lines_from i ≡ []
-  no_lines i l = ap (λ (ls : List (Lease S)). lease_lines (map (lease_entry K text roll) ls)) (drop_none roll i l)
+  no_lines i l = ap (λ (ls : List (Lease S)). lease_bytes (map (lease_entry K text roll) ls)) (drop_none roll i l)
 
   -- what a call for that line left at the front of its space
   pub placed_there : (i : ℕ) → i < length roll → ((l : Lease S) → Memᴰ l roll → length (lease_line K text roll l) ≤ 219) → (space after : List ℕ) (r : Result ℕ LineReason) (n : ℕ) → length space ≡ 219 → line_written r ≡ line_answer (line_at K text roll i) space → after ≡ space_after (line_at K text roll i) space → r ≡ Ok n → take n after ≡ line_there i
@@ -105,10 +106,10 @@ module _ {S : Type 0} (K : Kind S) (text : S → List ℕ) (roll : List (Lease S
       ∙ sym (ap (λ (o : Option (List ℕ)). unwrap_or o []) e)
 
 -- the line of a fault is the first of those to come
-pub first_refusal : (xs : List Fault) (i : ℕ) (d : Fault) → i < length xs → line_of_refusal (refused_event (get_or xs i d)) ++ refusal_lines (map refused_event (drop (i + 1) xs)) ≡ refusal_lines (map refused_event (drop i xs))
+pub first_refusal : (xs : List Fault) (i : ℕ) (d : Fault) → i < length xs → line_of_refusal (refused_event (get_or xs i d)) ++ refusal_bytes (map refused_event (drop (i + 1) xs)) ≡ refusal_bytes (map refused_event (drop i xs))
 first_refusal [] i d l = absurd (omega arith)
 first_refusal (x ∷ xs) zero d l = refl
-first_refusal (x ∷ xs) (suc i) d l = let e : suc i + 1 ≡ suc (i + 1) = omega arith in ap (λ (j : ℕ). line_of_refusal (refused_event (get_or xs i d)) ++ refusal_lines (map refused_event (drop j (x ∷ xs)))) e ∙ first_refusal xs i d (le_of_suc-le-suc l)
+first_refusal (x ∷ xs) (suc i) d l = let e : suc i + 1 ≡ suc (i + 1) = omega arith in ap (λ (j : ℕ). line_of_refusal (refused_event (get_or xs i d)) ++ refusal_bytes (map refused_event (drop j (x ∷ xs)))) e ∙ first_refusal xs i d (le_of_suc-le-suc l)
 
 -- one fault more can be read back
 pub one_readable : (xs : List Fault) (i : ℕ) (d : Fault) → i < length xs → AllByRecursion ReadableRefusal (map refused_event (take i xs)) → ReadableRefusal (refused_event (get_or xs i d)) → AllByRecursion ReadableRefusal (map refused_event (take (i + 1) xs))

@@ -6,9 +6,11 @@ use Rattle.std.proofs.lemmas.Fmt.{decimal_injective}
 use Rattle.lines.specs.declared.line.totals.Totals.{Totals}
 use Rattle.lines.specs.Lines.{letter, level_text, total_line}
 use Rattle.replay.specs.Faults.{RefusedEvent}
-use Rattle.printout.specs.Contents.{LeaseEntry, line_of_refusal, refusal_lines, line_of_lease, lease_lines, lines_of_totals}
-use Rattle.printout.specs.Readable.{Lacks, Small, ReadableRefusal, ReadableLease, ReadableTotals, OneContents}
-use Rattle.printout.specs.Tenancy.{book_contents, OnePrintout}
+use Rattle.printout.specs.Contents.{LeaseEntry, line_of_refusal, line_of_lease}
+use Rattle.printout.proofs.Bytes.{refusal_bytes, lease_bytes, total_bytes, three_parts}
+use Rattle.shares.specs.Text.{Lacks}
+use Rattle.printout.specs.Readable.{Small, ReadableRefusal, ReadableLease, ReadableTotals, OneContents}
+use Rattle.printout.specs.Tenancy.{tenancy_contents, OnePrintout}
 use Rattle.printout.proofs.Cuts.{cut, decimal_numeral, decimal_lacks, one_number, numeral_begins, numeral_begins_above}
 
 -- refused events
@@ -37,13 +39,13 @@ one_refusal x y u v p q e =
 abbrev Otherwise : List ℕ → Type 0
 Otherwise u = (w : List ℕ) → u ≡ 33 ∷ w → ⊥
 
-all_refusals : (xs ys : List RefusedEvent) (u v : List ℕ) → AllByRecursion ReadableRefusal xs → AllByRecursion ReadableRefusal ys → Otherwise u → Otherwise v → refusal_lines xs ++ u ≡ refusal_lines ys ++ v → (xs ≡ ys) × (u ≡ v)
+all_refusals : (xs ys : List RefusedEvent) (u v : List ℕ) → AllByRecursion ReadableRefusal xs → AllByRecursion ReadableRefusal ys → Otherwise u → Otherwise v → refusal_bytes xs ++ u ≡ refusal_bytes ys ++ v → (xs ≡ ys) × (u ≡ v)
 all_refusals [] [] u v p q a b e = (refl, e)
 all_refusals [] (y ∷ ys) u v p q a b e = absurd (a _ e)
 all_refusals (x ∷ xs) [] u v p q a b e = absurd (b _ (sym e))
 all_refusals (x ∷ xs) (y ∷ ys) u v p q a b e =
-    let f = sym (append_assoc (line_of_refusal x) (refusal_lines xs) u) ∙ e ∙ append_assoc (line_of_refusal y) (refusal_lines ys) v in
-    let r = one_refusal x y (refusal_lines xs ++ u) (refusal_lines ys ++ v) p.0 q.0 f in
+    let f = sym (append_assoc (line_of_refusal x) (refusal_bytes xs) u) ∙ e ∙ append_assoc (line_of_refusal y) (refusal_bytes ys) v in
+    let r = one_refusal x y (refusal_bytes xs ++ u) (refusal_bytes ys ++ v) p.0 q.0 f in
     let s = all_refusals xs ys u v p.1 q.1 a b r.1 in
     (ap₂ (λ x xs. x ∷ xs) r.0 s.0, s.1)
 
@@ -75,21 +77,21 @@ no_lease x u v p e =
     let f : 61 ∷ u ≡ decimal x.lease.number ++ (32 ∷ (decimal x.lease.resource ++ 32 ∷ (decimal x.lease.holder ++ 32 ∷ (decimal x.lease.lender ++ 32 ∷ (decimal x.lease.due ++ 32 ∷ (letter x.may_write ++ 32 ∷ (x.lease.share ++ 10 ∷ v))))))) = simp append_assoc at e in
     numeral_begins_above 61 (decimal x.lease.number) u _ (omega arith) (decimal_numeral x.lease.number p.number) f
 
-all_leases : (xs ys : List LeaseEntry) (u v : List ℕ) → AllByRecursion ReadableLease xs → AllByRecursion ReadableLease ys → lease_lines xs ++ 61 ∷ u ≡ lease_lines ys ++ 61 ∷ v → (xs ≡ ys) × (u ≡ v)
+all_leases : (xs ys : List LeaseEntry) (u v : List ℕ) → AllByRecursion ReadableLease xs → AllByRecursion ReadableLease ys → lease_bytes xs ++ 61 ∷ u ≡ lease_bytes ys ++ 61 ∷ v → (xs ≡ ys) × (u ≡ v)
 all_leases [] [] u v p q e = (refl, cc)
-all_leases [] (y ∷ ys) u v p q e = absurd (no_lease y u (lease_lines ys ++ 61 ∷ v) q.0 (e ∙ append_assoc (line_of_lease y) (lease_lines ys) (61 ∷ v)))
-all_leases (x ∷ xs) [] u v p q e = absurd (no_lease x v (lease_lines xs ++ 61 ∷ u) p.0 (sym e ∙ append_assoc (line_of_lease x) (lease_lines xs) (61 ∷ u)))
+all_leases [] (y ∷ ys) u v p q e = absurd (no_lease y u (lease_bytes ys ++ 61 ∷ v) q.0 (e ∙ append_assoc (line_of_lease y) (lease_bytes ys) (61 ∷ v)))
+all_leases (x ∷ xs) [] u v p q e = absurd (no_lease x v (lease_bytes xs ++ 61 ∷ u) p.0 (sym e ∙ append_assoc (line_of_lease x) (lease_bytes xs) (61 ∷ u)))
 all_leases (x ∷ xs) (y ∷ ys) u v p q e =
-    let f = sym (append_assoc (line_of_lease x) (lease_lines xs) (61 ∷ u)) ∙ e ∙ append_assoc (line_of_lease y) (lease_lines ys) (61 ∷ v) in
-    let r = one_lease x y (lease_lines xs ++ 61 ∷ u) (lease_lines ys ++ 61 ∷ v) p.0 q.0 f in
+    let f = sym (append_assoc (line_of_lease x) (lease_bytes xs) (61 ∷ u)) ∙ e ∙ append_assoc (line_of_lease y) (lease_bytes ys) (61 ∷ v) in
+    let r = one_lease x y (lease_bytes xs ++ 61 ∷ u) (lease_bytes ys ++ 61 ∷ v) p.0 q.0 f in
     let s = all_leases xs ys u v p.1 q.1 r.1 in
     (ap₂ (λ x xs. x ∷ xs) r.0 s.0, s.1)
 
 -- what follows the refused events begins otherwise
-leases_otherwise : (xs : List LeaseEntry) (u : List ℕ) → AllByRecursion ReadableLease xs → Otherwise (lease_lines xs ++ 61 ∷ u)
+leases_otherwise : (xs : List LeaseEntry) (u : List ℕ) → AllByRecursion ReadableLease xs → Otherwise (lease_bytes xs ++ 61 ∷ u)
 leases_otherwise [] u p w e = let z : ◌≡◌ {A = ℕ} 61 33 = cc in omega (arith, z)
 leases_otherwise (x ∷ xs) u p w e =
-    let f : 33 ∷ w ≡ decimal x.lease.number ++ (32 ∷ (decimal x.lease.resource ++ 32 ∷ (decimal x.lease.holder ++ 32 ∷ (decimal x.lease.lender ++ 32 ∷ (decimal x.lease.due ++ 32 ∷ (letter x.may_write ++ 32 ∷ (x.lease.share ++ 10 ∷ (lease_lines xs ++ 61 ∷ u)))))))) = simp append_assoc at (sym e) in
+    let f : 33 ∷ w ≡ decimal x.lease.number ++ (32 ∷ (decimal x.lease.resource ++ 32 ∷ (decimal x.lease.holder ++ 32 ∷ (decimal x.lease.lender ++ 32 ∷ (decimal x.lease.due ++ 32 ∷ (letter x.may_write ++ 32 ∷ (x.lease.share ++ 10 ∷ (lease_bytes xs ++ 61 ∷ u)))))))) = simp append_assoc at (sym e) in
     numeral_begins 33 (decimal x.lease.number) w _ (omega arith) (decimal_numeral x.lease.number p.0.number) f
 
 -- the totals
@@ -112,33 +114,33 @@ nothing_otherwise : Otherwise []
 nothing_otherwise w e = cc
 
 -- a printout with totals goes on after its refused events
-goes_on : (l : List LeaseEntry) (u : List ℕ) → lease_lines l ++ 61 ∷ u ≡ [] → ⊥
-goes_on l u e = let n = ap length e in let m = length-append (lease_lines l) (61 ∷ u) in omega (arith, n, m)
+goes_on : (l : List LeaseEntry) (u : List ℕ) → lease_bytes l ++ 61 ∷ u ≡ [] → ⊥
+goes_on l u e = let n = ap length e in let m = length-append (lease_bytes l) (61 ∷ u) in omega (arith, n, m)
 
 one : (r r' : List RefusedEvent) (l l' : List LeaseEntry) (t t' : Option Totals) → AllByRecursion ReadableRefusal r → AllByRecursion ReadableRefusal r' → AllByRecursion ReadableLease l → AllByRecursion ReadableLease l' → IfSome t ReadableTotals → IfSome t' ReadableTotals → IfNone t (l ≡ []) → IfNone t' (l' ≡ [])
-    → refusal_lines r ++ (lease_lines l ++ lines_of_totals t) ≡ refusal_lines r' ++ (lease_lines l' ++ lines_of_totals t') → (r ≡ r') × (l ≡ l') × (t ≡ t')
+    → refusal_bytes r ++ (lease_bytes l ++ total_bytes t) ≡ refusal_bytes r' ++ (lease_bytes l' ++ total_bytes t') → (r ≡ r') × (l ≡ l') × (t ≡ t')
 one r r' l l' (Some t) (Some t') p q a b u v c d e =
     let g = all_refusals r r' _ _ p q (leases_otherwise l _ a) (leases_otherwise l' _ b) e in
     let h = all_leases l l' _ _ a b g.1 in
     (g.0, h.0, ap Some (one_total t t' u v (ap (λ z. 61 ∷ z) h.1)))
 one r r' l l' None None p q a b u v c d e =
-    let f : refusal_lines r ++ [] ≡ refusal_lines r' ++ [] = ap (λ (z : List LeaseEntry). refusal_lines r ++ (lease_lines z ++ [])) (sym c) ∙ e ∙ ap (λ (z : List LeaseEntry). refusal_lines r' ++ (lease_lines z ++ [])) d in
+    let f : refusal_bytes r ++ [] ≡ refusal_bytes r' ++ [] = ap (λ (z : List LeaseEntry). refusal_bytes r ++ (lease_bytes z ++ [])) (sym c) ∙ e ∙ ap (λ (z : List LeaseEntry). refusal_bytes r' ++ (lease_bytes z ++ [])) d in
     let g = all_refusals r r' [] [] p q nothing_otherwise nothing_otherwise f in
     (g.0, c ∙ sym d, refl)
 one r r' l l' (Some t) None p q a b u v c d e =
-    let f : refusal_lines r ++ (lease_lines l ++ total_line t) ≡ refusal_lines r' ++ [] = e ∙ ap (λ (z : List LeaseEntry). refusal_lines r' ++ (lease_lines z ++ [])) d in
+    let f : refusal_bytes r ++ (lease_bytes l ++ total_line t) ≡ refusal_bytes r' ++ [] = e ∙ ap (λ (z : List LeaseEntry). refusal_bytes r' ++ (lease_bytes z ++ [])) d in
     let g = all_refusals r r' _ [] p q (leases_otherwise l _ a) nothing_otherwise f in
     absurd (goes_on l _ g.1)
 one r r' l l' None (Some t) p q a b u v c d e =
-    let f : refusal_lines r' ++ (lease_lines l' ++ total_line t) ≡ refusal_lines r ++ [] = sym e ∙ ap (λ (z : List LeaseEntry). refusal_lines r ++ (lease_lines z ++ [])) c in
+    let f : refusal_bytes r' ++ (lease_bytes l' ++ total_line t) ≡ refusal_bytes r ++ [] = sym e ∙ ap (λ (z : List LeaseEntry). refusal_bytes r ++ (lease_bytes z ++ [])) c in
     let g = all_refusals r' r _ [] q p (leases_otherwise l' _ b) nothing_otherwise f in
     absurd (goes_on l' _ g.1)
 
 pub one_shown : OneContents
 one_shown p q a b e =
-    let f = sym (append_assoc (refusal_lines p.refusals) (lease_lines p.leases) (lines_of_totals p.totals)) ∙ e ∙ append_assoc (refusal_lines q.refusals) (lease_lines q.leases) (lines_of_totals q.totals) in
+    let f = sym (append_assoc (refusal_bytes p.refusals) (lease_bytes p.leases) (total_bytes p.totals)) ∙ sym (three_parts p) ∙ e ∙ three_parts q ∙ append_assoc (refusal_bytes q.refusals) (lease_bytes q.leases) (total_bytes q.totals) in
     let r = one p.refusals q.refusals p.leases q.leases p.totals q.totals a.refusals b.refusals a.leases b.leases a.totals b.totals a.whole b.whole f in
     λ i. record { refusals = r.0 i; leases = r.1 i; totals = r.2 i }
 
 pub one_printout : OnePrintout
-one_printout a b p q e = one_shown (book_contents a) (book_contents b) p q e
+one_printout a b p q e = one_shown (tenancy_contents a) (tenancy_contents b) p q e

@@ -2,7 +2,8 @@
 use Rattle.std.proofs.Common.{◌≡◌, ℕ, ◌+◌, ◌<◌, ◌≤◌, ◌%◌, List, [], ◌∷◌, ◌++◌, refl, ap₂, sym, arith}
 use Rattle.std.specs.Fmt.{decimal}
 use Rattle.std.proofs.lemmas.Fmt.{decimal_by_steps, decimal_injective}
-use Rattle.printout.specs.Readable.{Lacks, Small}
+use Rattle.shares.specs.Text.{Lacks}
+use Rattle.printout.specs.Readable.{Small}
 
 -- what stands before the first such byte, and what after it
 pub cut : (c : ℕ) (xs ys u v : List ℕ) → Lacks c xs → Lacks c ys → xs ++ c ∷ u ≡ ys ++ c ∷ v → (xs ≡ ys) × (u ≡ v)

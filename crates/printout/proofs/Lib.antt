@@ -1,7 +1,7 @@
 mod Added
 mod Adding
 mod Backs
+mod Bytes
 mod Cuts
 mod Reading
-mod Unbroken
 mod Whole

@@ -11,7 +11,8 @@ use Rattle.lending.specs.Limits.{within_range}
 use Rattle.lending.specs.Office.{State}
 use Rattle.office.specs.Lawful.{Lawful}
 use Rattle.printout.specs.Contents.{lease_entry, lease_entries}
-use Rattle.printout.specs.Readable.{NoLineBreak, ReadableLease}
+use Rattle.shares.specs.Text.{NoLineBreak}
+use Rattle.printout.specs.Readable.{ReadableLease}
 
 few : (n : ℕ) → within_range n ≡ true → n ≤ 999
 few n e = let p = and_parts (nat_le 1 n) (nat_le n 999) e in leb-true n 999 p.1

@@ -9,7 +9,7 @@ use Rattle.calls.specs.declared.list.Tallies.{Tallies}
 use Rattle.replay.specs.declared.fault.Fault.{Fault}
 use Rattle.replay.specs.Faults.{RefusedEvent, refused_event, without_level}
 use Rattle.replay.specs.Whole.{refusals, tallies_of, run, Replay, opening_refused}
-use Rattle.printout.specs.Printouts.{contents_by, contents, printed_bytes, refused_events_by, state_left_by}
+use Rattle.printout.specs.Printouts.{contents_by, contents, refused_events_by, state_left_by}
 use Rattle.printout.specs.Readable.{IsReadable}
 use Rattle.printout.specs.Contents.{Contents, line_of_refusal, contents_opened, printout_bytes}
 
@@ -33,7 +33,7 @@ shown_of_refusal refused_event = record { refusals = refused_event ∷ []; lease
 
 -- its only line
 pub refusal_text : (refused_event : RefusedEvent) → line_of_refusal refused_event ≡ printout_bytes (shown_of_refusal refused_event)
-refusal_text refused_event = sym (append-nil _ ∙ append-nil _ ∙ append-nil _)
+refusal_text refused_event = sym (append-nil _)
 
 module _ {S : Type 0} (K : Kind S) (layers : Layers S) (text : S → List ℕ) (b : List ℕ) (s : State S) where
   -- a book that opens
@@ -77,16 +77,8 @@ module _ {S : Type 0} (K : Kind S) (text : S → List ℕ) (b : List ℕ) {l k :
   over : contents K l text b s ≡ contents K k text b t
   over = ap₂ (λ (x : Layers S) (y : State S). contents K x text b y) e f
 
-  pub printed_over : (before out : List ℕ) → before ≡ [] → out ≡ before ++ printed_bytes K l text b s → out ≡ printed_bytes K k text b t
-  printed_over before out none is = is ∙ ap (λ (xs : List ℕ). xs ++ printed_bytes K l text b s) none ∙ ap printout_bytes over
+  pub printed_over : (before out : List ℕ) → before ≡ [] → out ≡ before ++ printout_bytes (contents K l text b s) → out ≡ printout_bytes (contents K k text b t)
+  printed_over before out none is = is ∙ ap (λ (xs : List ℕ). xs ++ printout_bytes (contents K l text b s)) none ∙ ap printout_bytes over
 
   pub readable_over : IsReadable (contents K l text b s) → IsReadable (contents K k text b t)
   readable_over p = subst IsReadable over p
-
--- a pile of three layers, by what each says of the one below it
-module _ {S : Type 0} (q d h : Own S) where
-  pub three_layers : (a b c below : Layers S) → a ≡ q ∷ b → b ≡ d ∷ c → c ≡ h ∷ below → a ≡ q ∷ d ∷ h ∷ below
-  three_layers a b c below e f k = e ∙ ap (λ (l : Layers S). q ∷ l) (f ∙ ap (λ (l : Layers S). d ∷ l) k)
-
-  pub three_stand : (a b c below : State S) → a ≡ layered q b → b ≡ layered d c → c ≡ layered h below → a ≡ layered q (layered d (layered h below))
-  three_stand a b c below e f k = e ∙ ap (layered q) (f ∙ ap (layered d) k)

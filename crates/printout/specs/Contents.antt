@@ -1,5 +1,6 @@
 -- What a printout shows, and its bytes.
-use Rattle.std.specs.Prelude.{ℕ, Bool, List, [], ◌∷◌, ◌++◌, length, map, flat_map, Some, None, Option}
+use Rattle.std.specs.Prelude.{ℕ, Bool, List, [], ◌∷◌, ◌++◌, length, map, Some, None, Option}
+use Rattle.std.specs.List.{concat}
 use Rattle.shares.specs.Kind.{Kind}
 use Rattle.lending.specs.declared.lease.Lease.{Lease}
 use Rattle.lending.specs.Office.{State}
@@ -25,24 +26,30 @@ pub record Contents : Type 0 where
 abbrev pub line_of_refusal : RefusedEvent → List ℕ
 line_of_refusal x = refusal_line x.event x.number x.level
 
-abbrev pub refusal_lines : List RefusedEvent → List ℕ
-refusal_lines xs = flat_map line_of_refusal xs
+-- the lines of refused events
+abbrev pub refusal_lines : List RefusedEvent → List (List ℕ)
+refusal_lines xs = map line_of_refusal xs
 
 -- the line of a live lease
 abbrev pub line_of_lease : LeaseEntry → List ℕ
 line_of_lease x = lease_text (λ text. text) x.lease x.may_write
 
-abbrev pub lease_lines : List LeaseEntry → List ℕ
-lease_lines xs = flat_map line_of_lease xs
+-- the lines of live leases
+abbrev pub lease_lines : List LeaseEntry → List (List ℕ)
+lease_lines xs = map line_of_lease xs
 
 -- the line of the totals, if there are any
-abbrev pub lines_of_totals : Option Totals → List ℕ
-lines_of_totals None = []
-lines_of_totals (Some totals) = total_line totals
+abbrev pub total_lines : Option Totals → List (List ℕ)
+total_lines None = []
+total_lines (Some totals) = total_line totals ∷ []
 
--- The bytes of a printout, by what it shows.
+-- The lines of a printout, by what it shows: of the refused events, of the live leases, and of the totals.
+abbrev pub printout_lines : Contents → List (List ℕ)
+printout_lines p = refusal_lines p.refusals ++ lease_lines p.leases ++ total_lines p.totals
+
+-- Its bytes are those lines, one after another.
 abbrev pub printout_bytes : Contents → List ℕ
-printout_bytes p = refusal_lines p.refusals ++ lease_lines p.leases ++ lines_of_totals p.totals
+printout_bytes p = concat (printout_lines p)
 
 -- a book that doesn't open is refused with this number
 abbrev pub contents_unopened : ℕ → Contents

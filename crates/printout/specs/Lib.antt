@@ -3,3 +3,4 @@ pub mod Printouts
 pub mod Readable
 pub mod Contents
 pub mod Tenancy
+pub mod Books

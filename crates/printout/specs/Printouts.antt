@@ -7,7 +7,7 @@ use Rattle.book.specs.declared.header.Header.{Header}
 use Rattle.book.specs.Books.{opening, event_count}
 use Rattle.replay.specs.Faults.{RefusedEvent}
 use Rattle.replay.specs.Whole.{refusals, tallies_of, run}
-use Rattle.printout.specs.Contents.{Contents, contents_unopened, contents_opened, printout_bytes}
+use Rattle.printout.specs.Contents.{Contents, contents_unopened, contents_opened}
 
 module _ {S : Type 0} (K : Kind S) (layers : Layers S) where
   abbrev pub contents_by : Result Header ℕ → (S → List ℕ) → List ℕ → State S → Contents
@@ -18,9 +18,6 @@ module _ {S : Type 0} (K : Kind S) (layers : Layers S) where
   abbrev pub contents : (S → List ℕ) → List ℕ → State S → Contents
   contents text b s = contents_by (opening b) text b s
 
-  -- its bytes
-  abbrev pub printed_bytes : (S → List ℕ) → List ℕ → State S → List ℕ
-  printed_bytes text b s = printout_bytes (contents text b s)
 
   abbrev pub refused_events_by : Result Header ℕ → List ℕ → State S → List RefusedEvent
   refused_events_by (Err n) b s = []

@@ -1,17 +1,10 @@
 -- What a printout shows can be read back.
-use Rattle.std.specs.Prelude.{◌≡◌, ◌≢◌, ℕ, ◌<◌, ◌^◌, List, [], IfSome, IfNone}
+use Rattle.std.specs.Prelude.{◌≡◌, ℕ, ◌<◌, ◌^◌, List, [], IfSome, IfNone}
 use Rattle.std.specs.List.{AllByRecursion}
+use Rattle.shares.specs.Text.{Lacks}
 use Rattle.lines.specs.declared.line.totals.Totals.{Totals}
 use Rattle.replay.specs.Faults.{RefusedEvent}
 use Rattle.printout.specs.Contents.{LeaseEntry, Contents, printout_bytes}
-
--- none of the bytes is this one
-abbrev pub Lacks : ℕ → List ℕ → Type 0
-Lacks byte xs = AllByRecursion (λ x. x ≢ byte) xs
-
--- no share's text has a line break
-abbrev pub NoLineBreak : {S : Type 0} → (S → List ℕ) → Type 0
-NoLineBreak {S} text = (share : S) → Lacks 10 (text share)
 
 -- 64 bits hold the number
 abbrev pub Small : ℕ → Type 0

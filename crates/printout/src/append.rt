@@ -1,24 +1,24 @@
 // Lines of a printout, each added to some bytes.
 ghost use Rattle.std.specs.Prelude.{◌≡◌, ◌<◌, [], length, map, OnOk, vec_capacity};
-ghost use Rattle.std.specs.List.{AllByRecursion};
+ghost use Rattle.std.specs.List.{AllByRecursion, concat};
 ghost use Rattle.std.specs.Option.{unwrap_or};
 ghost use Rattle.lines.specs.Lines.{line_at, refusal_line, total_line};
 ghost use Rattle.replay.specs.Faults.{refused_event};
-ghost use Rattle.printout.specs.Adds.{Adds};
+ghost use Rattle.printout.specs.Adds.{AddsTo};
 ghost use Rattle.printout.specs.Readable.{ReadableRefusal, ReadableTotals};
 ghost use Rattle.printout.specs.Contents.{line_of_refusal, refusal_lines, lease_entries, lease_lines, totals_of};
 
 use calls::Tallies;
 use desk::{count, issued};
 use office::Office;
-use lines::{Totals, lease_line, refusal_line, total_line};
+use lines::{LONGEST_LINE, Totals, lease_line, refusal_line, total_line};
 use replay::Fault;
 use shares::Printed;
 use std::alloc::AllocError;
 
 // The line of a refused event.
 pub(crate) fn add_refusal(out: &mut Vec<u8>, fault: Fault) -> Result<(), AllocError>
-    ensures adds { Adds out.old.items (vec_capacity out.old) (line_of_refusal (refused_event fault)) result out.new.items (vec_capacity out.new) }
+    ensures adds { AddsTo out.old (line_of_refusal (refused_event fault)) result out.new }
     ensures readable { ReadableRefusal (refused_event fault) }
 {
     add_refusal_line(out, usize::from(fault.event), fault.number(), fault.level())
@@ -31,9 +31,9 @@ fn add_refusal_line(
     number: u8,
     level: Option<u8>,
 ) -> Result<(), AllocError>
-    ensures { Adds out.old.items (vec_capacity out.old) (refusal_line event number level) result out.new.items (vec_capacity out.new) }
+    ensures { AddsTo out.old (refusal_line event number level) result out.new }
 {
-    let mut space = [0; 219];
+    let mut space = [0; LONGEST_LINE];
     let length = refusal_line(event, number, level, &mut space).unwrap();
     out.extend_from_slice(&space[..length])
 }
@@ -41,7 +41,7 @@ fn add_refusal_line(
 // The lines of refused events.
 #[tactic(auto, using(crate::proofs::Added::adds_first))]
 pub(crate) fn add_refusals(out: &mut Vec<u8>, faults: &[Fault]) -> Result<(), AllocError>
-    ensures adds { Adds out.old.items (vec_capacity out.old) (refusal_lines (map refused_event faults.now)) result out.new.items (vec_capacity out.new) }
+    ensures adds { AddsTo out.old (concat (refusal_lines (map refused_event faults.now))) result out.new }
     ensures readable { OnOk result (AllByRecursion ReadableRefusal (map refused_event faults.now)) }
 {
     for fault in faults {
@@ -55,7 +55,7 @@ pub(crate) fn add_refusals(out: &mut Vec<u8>, faults: &[Fault]) -> Result<(), Al
 pub(crate) fn add_leases<O: Office>(out: &mut Vec<u8>, office: &O) -> Result<(), AllocError>
 where
     O::Kind: Printed,
-    ensures { Adds out.old.items (vec_capacity out.old) (lease_lines (lease_entries O.Kind.kind O.Kind.text (O.meaning office.now).core.roll)) result out.new.items (vec_capacity out.new) }
+    ensures { AddsTo out.old (concat (lease_lines (lease_entries O.Kind.kind O.Kind.text (O.meaning office.now).core.roll))) result out.new }
 {
     for position in 0..count(office) {
         add_lease(out, office, position)?;
@@ -69,9 +69,9 @@ fn add_lease<O: Office>(out: &mut Vec<u8>, office: &O, position: usize) -> Resul
 where
     O::Kind: Printed,
     requires { position < length (O.meaning office.now).core.roll }
-    ensures { Adds out.old.items (vec_capacity out.old) (unwrap_or (line_at O.Kind.kind O.Kind.text (O.meaning office.now).core.roll position) []) result out.new.items (vec_capacity out.new) }
+    ensures { AddsTo out.old (unwrap_or (line_at O.Kind.kind O.Kind.text (O.meaning office.now).core.roll position) []) result out.new }
 {
-    let mut space = [0; 219];
+    let mut space = [0; LONGEST_LINE];
     let length = lease_line(office, position, &mut space).unwrap();
     out.extend_from_slice(&space[..length])
 }
@@ -82,17 +82,17 @@ pub(crate) fn add_totals<O: Office>(
     office: &O,
     tallies: Tallies,
 ) -> Result<(), AllocError>
-    ensures adds { Adds out.old.items (vec_capacity out.old) (total_line (totals_of tallies (O.meaning office.now))) result out.new.items (vec_capacity out.new) }
+    ensures adds { AddsTo out.old (total_line (totals_of tallies (O.meaning office.now))) result out.new }
     ensures readable { ReadableTotals (totals_of tallies (O.meaning office.now)) }
 {
     add_total_line(out, totals_of(office, tallies))
 }
 
 fn add_total_line(out: &mut Vec<u8>, totals: Totals) -> Result<(), AllocError>
-    ensures adds { Adds out.old.items (vec_capacity out.old) (total_line totals) result out.new.items (vec_capacity out.new) }
+    ensures adds { AddsTo out.old (total_line totals) result out.new }
     ensures readable { ReadableTotals totals }
 {
-    let mut space = [0; 219];
+    let mut space = [0; LONGEST_LINE];
     let length = total_line(totals, &mut space).unwrap();
     out.extend_from_slice(&space[..length])
 }

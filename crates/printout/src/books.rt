@@ -1,14 +1,11 @@
-ghost use Rattle.std.specs.Prelude.{◌≡◌, ◌≤◌, ◌+◌, ◌++◌, ◌⊎◌, IsErr, IsOk, OnOk, OnErr, drop, length, map, take, vec_len, vec_capacity};
-ghost use Rattle.book.specs.Books.{opening, event_count};
+ghost use Rattle.std.specs.Prelude.{OnOk, map};
 ghost use Rattle.lending.specs.Promise.{LendingConserved};
-ghost use Rattle.office.specs.Calls.{Keeps};
-ghost use Rattle.replay.specs.Quiet.{AllQuiet};
+ghost use Rattle.replay.specs.Books.{BookConserves};
 ghost use Rattle.replay.specs.Faults.{refused_event};
-ghost use Rattle.replay.specs.Whole.{RunConserved};
-ghost use Rattle.printout.specs.Adds.{Begins, Adds};
-ghost use Rattle.printout.specs.Printouts.{contents, printed_bytes, refused_events, state_left};
-ghost use Rattle.printout.specs.Readable.{NoLineBreak, IsReadable, OneContents};
+ghost use Rattle.printout.specs.Adds.{AddsTo};
+ghost use Rattle.printout.specs.Books.{book_contents, BookPrinted};
 ghost use Rattle.printout.specs.Contents.{contents_opened, printout_bytes};
+ghost use Rattle.printout.specs.Readable.{IsReadable, OneContents};
 
 use crate::append::{add_leases, add_refusal, add_refusals, add_totals};
 use calls::Tallies;
@@ -30,27 +27,17 @@ pub fn print_book<O: Piled>(
 ) -> Result<(), AllocError>
 where
     O::Kind: Printed,
-    ensures prints { OnOk result (out.new.items ≡ out.old.items ++ printed_bytes O.Kind.kind (O.layers office.old) O.Kind.text book.now (O.meaning office.old)) }
-    ensures readable { NoLineBreak O.Kind.text → OnOk result (IsReadable (contents O.Kind.kind (O.layers office.old) O.Kind.text book.now (O.meaning office.old))) }
+    ensures printed { BookPrinted O.Kind.kind O.Office O.Kind.text book.now office.old office.new faults.old faults.new out.old out.new result }
+    ensures readable { OnOk result (IsReadable (book_contents O.Kind.kind O.Office O.Kind.text book.now office.old)) }
     ensures read_back { OneContents }
-    ensures leaves { OnOk result (O.meaning office.new ≡ state_left O.Kind.kind (O.layers office.old) book.now (O.meaning office.old)) }
-    ensures faults { OnOk result (map refused_event (drop (vec_len faults.old) faults.new.items) ≡ refused_events O.Kind.kind (O.layers office.old) book.now (O.meaning office.old)) }
-    ensures kept { take (vec_len faults.old) faults.new.items ≡ faults.old.items }
-    ensures begins { Begins out.old.items out.new.items }
-    ensures unopened { IsErr (opening book.now) → (office.new ≡ office.old) × (faults.new ≡ faults.old) }
-    ensures idle { AllQuiet O.Kind.kind (O.meaning office.old) book.now (event_count book.now) → office.new ≡ office.old }
-    ensures no_memory { OnErr result ((office.new ≡ office.old) ⊎ (O.meaning office.new ≡ state_left O.Kind.kind (O.layers office.old) book.now (O.meaning office.old))) }
-    ensures replayed { vec_len faults.old + event_count book.now ≤ vec_capacity faults.old → O.meaning office.new ≡ state_left O.Kind.kind (O.layers office.old) book.now (O.meaning office.old) }
-    ensures room { vec_len faults.old + event_count book.now ≤ vec_capacity faults.old → vec_len out.old + length (printed_bytes O.Kind.kind (O.layers office.old) O.Kind.text book.now (O.meaning office.old)) ≤ vec_capacity out.old → IsOk result }
-    ensures conserved { RunConserved O.Kind.kind (O.layers office.old) book.now (O.meaning office.old) (event_count book.now) }
-    ensures keeps { Keeps O.Office office.old office.new }
+    ensures conserved { BookConserves O.Kind.kind O.Office book.now office.old }
     ensures always { LendingConserved O.Kind.kind }
 {
     lending_is_conserved::<O::Kind>();
     replay_and_print(office, book, faults, out)
 }
 
-// The same, by itself so that a wrong call of it is refused where it stands.
+// The replay and its lines. (A function of its own, so that a wrong call of it is refused in the line that calls it.)
 fn replay_and_print<O: Piled>(
     office: &mut O,
     book: &[u8],
@@ -59,19 +46,9 @@ fn replay_and_print<O: Piled>(
 ) -> Result<(), AllocError>
 where
     O::Kind: Printed,
-    ensures prints { OnOk result (out.new.items ≡ out.old.items ++ printed_bytes O.Kind.kind (O.layers office.old) O.Kind.text book.now (O.meaning office.old)) }
-    ensures readable { NoLineBreak O.Kind.text → OnOk result (IsReadable (contents O.Kind.kind (O.layers office.old) O.Kind.text book.now (O.meaning office.old))) }
-    ensures leaves { OnOk result (O.meaning office.new ≡ state_left O.Kind.kind (O.layers office.old) book.now (O.meaning office.old)) }
-    ensures faults { OnOk result (map refused_event (drop (vec_len faults.old) faults.new.items) ≡ refused_events O.Kind.kind (O.layers office.old) book.now (O.meaning office.old)) }
-    ensures kept { take (vec_len faults.old) faults.new.items ≡ faults.old.items }
-    ensures begins { Begins out.old.items out.new.items }
-    ensures unopened { IsErr (opening book.now) → (office.new ≡ office.old) × (faults.new ≡ faults.old) }
-    ensures idle { AllQuiet O.Kind.kind (O.meaning office.old) book.now (event_count book.now) → office.new ≡ office.old }
-    ensures no_memory { OnErr result ((office.new ≡ office.old) ⊎ (O.meaning office.new ≡ state_left O.Kind.kind (O.layers office.old) book.now (O.meaning office.old))) }
-    ensures replayed { vec_len faults.old + event_count book.now ≤ vec_capacity faults.old → O.meaning office.new ≡ state_left O.Kind.kind (O.layers office.old) book.now (O.meaning office.old) }
-    ensures room { vec_len faults.old + event_count book.now ≤ vec_capacity faults.old → vec_len out.old + length (printed_bytes O.Kind.kind (O.layers office.old) O.Kind.text book.now (O.meaning office.old)) ≤ vec_capacity out.old → IsOk result }
-    ensures conserved { RunConserved O.Kind.kind (O.layers office.old) book.now (O.meaning office.old) (event_count book.now) }
-    ensures keeps { Keeps O.Office office.old office.new }
+    ensures printed { BookPrinted O.Kind.kind O.Office O.Kind.text book.now office.old office.new faults.old faults.new out.old out.new result }
+    ensures readable { OnOk result (IsReadable (book_contents O.Kind.kind O.Office O.Kind.text book.now office.old)) }
+    ensures conserved { BookConserves O.Kind.kind O.Office book.now office.old }
 {
     let earlier = faults.len();
     match replay(office, book, faults)? {
@@ -89,8 +66,8 @@ fn add_lines<O: Office>(
 ) -> Result<(), AllocError>
 where
     O::Kind: Printed,
-    ensures adds { Adds out.old.items (vec_capacity out.old) (printout_bytes (contents_opened O.Kind.kind O.Kind.text (map refused_event faults.now) tallies (O.meaning office.now))) result out.new.items (vec_capacity out.new) }
-    ensures readable { NoLineBreak O.Kind.text → OnOk result (IsReadable (contents_opened O.Kind.kind O.Kind.text (map refused_event faults.now) tallies (O.meaning office.now))) }
+    ensures adds { AddsTo out.old (printout_bytes (contents_opened O.Kind.kind O.Kind.text (map refused_event faults.now) tallies (O.meaning office.now))) result out.new }
+    ensures readable { OnOk result (IsReadable (contents_opened O.Kind.kind O.Kind.text (map refused_event faults.now) tallies (O.meaning office.now))) }
 {
     add_refusals(out, faults)?;
     add_leases(out, office)?;

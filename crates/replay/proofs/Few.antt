@@ -16,7 +16,7 @@ use Rattle.lending.specs.Above.{yields, downward, recall_all}
 use Rattle.lending.specs.Perform.{perform, Ends, Does}
 use Rattle.lending.specs.History.{one_if_done, its_number}
 use Rattle.lending.proofs.Idling.{Acts, acts_then, acts_yields, acts_day}
-use Rattle.lending.proofs.Steps.{by_checks}
+use Rattle.lending.proofs.Cases.{by_checks}
 use Rattle.office.specs.Lawful.{Lawful}
 use Rattle.calls.specs.declared.list.Tallies.{Tallies}
 use Rattle.calls.specs.Lists.{all_closed, tallies_with}

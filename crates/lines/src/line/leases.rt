@@ -3,7 +3,9 @@ ghost use Rattle.std.specs.Option.{ok_or};
 ghost use Rattle.arrayvec.specs.ArrayVec.{array_vec_len};
 ghost use Rattle.lending.specs.Promise.{LendingConserved};
 ghost use Rattle.lines.specs.declared.reason.LineReason.TheVariants.{NoSuchPosition};
-ghost use Rattle.lines.specs.Answers.{line_written, line_answer, space_after};
+ghost use Rattle.lines.specs.declared.line.TheConstants.{ROOM};
+ghost use Rattle.shares.specs.declared.printed.TheConstants.{LONGEST_TEXT};
+ghost use Rattle.lines.specs.Answers.{WritesLine};
 ghost use Rattle.lines.specs.Lines.{letter, writes, lease_text, line_at, LinesAreShort, LettersTell};
 
 use super::{Line, put, write_bytes, write_field};
@@ -11,7 +13,7 @@ use crate::reason::LineReason;
 use desk::{lease_at, may_write};
 use lending::{Lease, lending_is_conserved};
 use office::Office;
-use shares::Printed;
+use shares::{LONGEST_TEXT, Printed};
 
 /// Writes the line of the live lease at a position of the roll, from 0. It says `w` exactly if the holder may write.
 pub fn lease_line<O: Office>(
@@ -21,8 +23,7 @@ pub fn lease_line<O: Office>(
 ) -> Result<usize, LineReason>
 where
     O::Kind: Printed,
-    ensures answers { line_written result ≡ line_answer (line_at O.Kind.kind O.Kind.text (O.meaning office.now).core.roll position) space.old }
-    ensures leaves { space.new ≡ space_after (line_at O.Kind.kind O.Kind.text (O.meaning office.now).core.roll position) space.old }
+    ensures writes { WritesLine (line_at O.Kind.kind O.Kind.text (O.meaning office.now).core.roll position) space.old space.new result }
     ensures short { LinesAreShort O.Kind.kind O.Kind.text (O.meaning office.now) }
     ensures letters { LettersTell O.Kind.kind (O.meaning office.now) }
     ensures always { LendingConserved O.Kind.kind }
@@ -81,11 +82,11 @@ fn letter(may_write: bool) -> u8
 
 // Writes the text of a share.
 fn write_share<S: Printed>(line: &mut Line, share: S)
-    requires { array_vec_len line.old + 190 ≤ 256 }
+    requires { array_vec_len line.old + LONGEST_TEXT ≤ ROOM }
     ensures text { line.new.items ≡ line.old.items ++ S.text share }
-    ensures short { array_vec_len line.new ≤ array_vec_len line.old + 190 }
+    ensures short { array_vec_len line.new ≤ array_vec_len line.old + LONGEST_TEXT }
 {
-    let mut space = [0u8; 190];
+    let mut space = [0u8; LONGEST_TEXT];
     let length = share.write(&mut space);
     write_bytes(line, &space[..length]);
 }

@@ -1,6 +1,8 @@
 ghost use Rattle.std.specs.Prelude.{◌≡◌, ◌+◌, ◌≤◌, [], ◌++◌, length, Some};
 ghost use Rattle.arrayvec.specs.ArrayVec.{array_vec_len};
-ghost use Rattle.lines.specs.Answers.{line_written, line_answer, space_after};
+ghost use Rattle.lines.specs.declared.line.TheConstants.{LONGEST_LINE};
+ghost use Rattle.lines.specs.declared.line.TheConstants.{ROOM};
+ghost use Rattle.lines.specs.Answers.{WritesLine};
 ghost use Rattle.lines.specs.Lines.{refusal_line, level_text};
 
 use super::{Line, put, write_field, write_number};
@@ -13,9 +15,8 @@ pub fn refusal_line(
     level: Option<u8>,
     space: &mut [u8],
 ) -> Result<usize, LineReason>
-    ensures answers { line_written result ≡ line_answer (Some (refusal_line event number level)) space.old }
-    ensures leaves { space.new ≡ space_after (Some (refusal_line event number level)) space.old }
-    ensures short { length (refusal_line event number level) ≤ 219 }
+    ensures writes { WritesLine (Some (refusal_line event number level)) space.old space.new result }
+    ensures short { length (refusal_line event number level) ≤ LONGEST_LINE }
 {
     let mut line = Line::new();
     write_refusal(&mut line, event, number, level);
@@ -26,7 +27,7 @@ pub fn refusal_line(
 fn write_refusal(line: &mut Line, event: usize, number: u8, level: Option<u8>)
     requires { line.old.items ≡ [] }
     ensures text { line.new.items ≡ refusal_line event number level }
-    ensures short { array_vec_len line.new ≤ 219 }
+    ensures short { array_vec_len line.new ≤ LONGEST_LINE }
 {
     line.push(b'!');
     line.push(b' ');
@@ -38,7 +39,7 @@ fn write_refusal(line: &mut Line, event: usize, number: u8, level: Option<u8>)
 
 // Writes the level of a refusal, or `-` if it has none.
 fn write_level(line: &mut Line, level: Option<u8>)
-    requires { array_vec_len line.old + 3 ≤ 256 }
+    requires { array_vec_len line.old + 3 ≤ ROOM }
     ensures text { line.new.items ≡ line.old.items ++ level_text level }
     ensures short { array_vec_len line.new ≤ array_vec_len line.old + 3 }
 {

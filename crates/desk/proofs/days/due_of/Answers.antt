@@ -1,5 +1,4 @@
-use Rattle.std.proofs.Common.{ap, ◌∙◌, arith}
-use Rattle.std.proofs.lemmas.Bool.{le-leb, lt-leb}
+use Rattle.std.proofs.Common.{ap, sym, ◌∙◌, arith}
 use Rattle.lending.specs.Calls.{due_by}
 use Rattle.office.specs.ToCome.{leases_to_come}
 use Rattle.desk.proofs.Marking.{begins, noted, passed, ended, room}
@@ -16,15 +15,15 @@ push-requires g c =
     let less = room (due_by c.args.day) (g.O.Office.meaning c.args.office.now).core.roll c.loop-lease.yielded c.in-Some.lease (leases_to_come g.O.Office.meaning c.next.new.self) (leases_to_come g.O.Office.meaning c.loop-lease.lease-iterator) c.loop-lease.numbers.items c.in-Some.ensures.steps c.loop-lease.invariant in
     (omega arith, omega (arith, law.fits, law.capacity))
 
-pub loop-lease-preserved-then-lease-day : goal.loop-lease-preserved-then-lease-day
-loop-lease-preserved-then-lease-day g c =
+pub loop-lease-preserved-then-falls_due_by : goal.loop-lease-preserved-then-falls_due_by
+loop-lease-preserved-then-falls_due_by g c =
     noted (due_by c.args.day) (g.O.Office.meaning c.args.office.now).core.roll c.loop-lease.yielded c.in-Some.lease (leases_to_come g.O.Office.meaning c.next.new.self) (leases_to_come g.O.Office.meaning c.loop-lease.lease-iterator) c.loop-lease.numbers.items c.push.new.self.items c.in-Some.ensures.steps c.loop-lease.invariant
-    (le-leb c.in-Some.lease.due c.args.day c.if-lease-day.true) c.push.ensures.items
+    (sym c.falls_due_by.ensures ∙ c.if-falls_due_by.true) c.push.ensures.items
 
 pub loop-lease-preserved : goal.loop-lease-preserved
 loop-lease-preserved g c =
     passed (due_by c.args.day) (g.O.Office.meaning c.args.office.now).core.roll c.loop-lease.yielded c.in-Some.lease (leases_to_come g.O.Office.meaning c.next.new.self) (leases_to_come g.O.Office.meaning c.loop-lease.lease-iterator) c.loop-lease.numbers.items c.in-Some.ensures.steps c.loop-lease.invariant
-    (lt-leb c.in-Some.lease.due c.args.day c.if-lease-day.false)
+    (sym c.falls_due_by.ensures ∙ c.if-falls_due_by.false)
 
 pub returns : goal.returns
 returns g c =

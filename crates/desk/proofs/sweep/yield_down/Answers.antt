@@ -27,7 +27,7 @@ loop-number-preserved g c =
     let r : reverse c.loop-number.number-iterator.iter.rest.now ≡ n ∷ reverse rest = ap reverse c.in-Some.ensures.steps ∙ reverse-append rest (n ∷ []) in (
       λ u h.
           let v = c.loop-number.invariant.0 u h in
-          (objecting K t.objections v.0, yields_on K n (reverse rest) s t v.0 (done_or_refused c.yield_lease.result) (ap (yields K s) (sym r) ∙ v.1) c.yield_lease.ensures.does, v.2),
+          (objecting K t v.0, yields_on K n (reverse rest) s t v.0 (done_or_refused c.yield_lease.result) (ap (yields K s) (sym r) ∙ v.1) c.yield_lease.ensures.does, v.2),
       both_keep g.O.Office _ _ _ c.loop-number.invariant.1 c.yield_lease.ensures.keeps,
     )
 
