@@ -1,8 +1,8 @@
 -- The numbers of the reasons.
 use Rattle.std.specs.Prelude.{ℕ}
 use Rattle.book.specs.declared.reason.BookReason.{BookReason}
-use Rattle.book.specs.declared.reason.BookReason.TheVariants.{TooShort, TooManyEvents, NoSuchKind, NotZero}
-use Rattle.book.specs.declared.reason.BookReason.TheVariants.{WrongLength, NoEventLeft, UnknownCode, UnusedOperand, EventsLeft}
+use Rattle.book.specs.declared.reason.BookReason.TheVariants.{TooShort, TooManyEvents, NoSuchKind, NotZero, WrongLength}
+use Rattle.book.specs.declared.reason.BookReason.TheVariants.{NoEventLeft, UnknownCode, UnusedOperand, EventsLeft}
 
 abbrev pub book_reason_number : BookReason → ℕ
 book_reason_number TooShort = 41

@@ -25,8 +25,8 @@ impl<'a> Book<'a> {
     ghost use Rattle.book.specs.Books.{opening, header_or_number, book_bytes, event_in, event_parts};
     ghost use Rattle.book.specs.Places.{further};
 
-    /// Opens a book, or refuses its bytes by the first rule that they break. A book that opens is all of its bytes, and its
-    /// two arrays are those very parts of them.
+    /// Opens a book, or refuses its bytes by the first rule that they break. A book that opens is all of its bytes, and
+    /// its two arrays are those very parts of them.
     pub fn open(bytes: &'a [u8]) -> Result<Book<'a>, BookReason>
         ensures is { header_or_number result ≡ opening bytes.now }
         ensures whole { IfOk result (λ book. book_bytes book ≡ bytes.now) }

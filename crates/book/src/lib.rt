@@ -1,5 +1,5 @@
-//! The tenancy book: its header, its events, and the operands of an event, read from bytes that somebody lends. Any bytes
-//! are either opened, or refused by the number of the first rule that they break.
+//! The tenancy book: its header, its events, and the operands of an event, read from bytes that somebody lends. Any
+//! bytes are either opened, or refused by the number of the first rule that they break.
 #![tactic(auto)]
 
 mod book;

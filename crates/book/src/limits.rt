@@ -16,8 +16,8 @@ pub const EVENT: usize = 1 + RECORD;
 /// The bytes of a book with as many events as it can have.
 pub const MOST_BYTES: usize = HEADER + EVENT * MOST_EVENTS as usize;
 
-/// How many of an input's first bytes are enough to tell what opening all of it says: one more than a book can have, so that
-/// a longer input is seen to be too long.
+/// How many of an input's first bytes are enough to tell what opening all of it says: one more than a book can have, so
+/// that a longer input is seen to be too long.
 #[tactic(auto, using(crate::proofs::Reading::enough))]
 pub fn bytes_to_read() -> u64
     ensures is { result ≡ 28681 }

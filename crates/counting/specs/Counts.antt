@@ -1,5 +1,5 @@
--- Counting shares, as in the permissions of Bornat, Calcagno, O'Hearn and Parkinson: a source counts the readers that it has
--- given out.
+-- Counting shares, as in the permissions of Bornat, Calcagno, O'Hearn and Parkinson: a source counts the readers that
+-- it has given out.
 use Rattle.std.specs.Prelude.{◌≡◌, refl, ℕ, ◌+◌, ◌-◌, ◌==◌, nat_le, Bool, true, false, if◌then◌else◌}
 use Rattle.std.specs.Prelude.{List, [], ◌∷◌, decimal, Option, Some, None}
 use Rattle.shares.specs.Kind.{Kind, bind}

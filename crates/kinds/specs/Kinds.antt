@@ -1,5 +1,5 @@
--- The kinds of share that the house uses: the name of each, its byte in a book, its operations and its texts. A new kind is a
--- line in each of the first four definitions, and in src/kind.rt.
+-- The kinds of share that the house uses: the name of each, its byte in a book, its operations and its texts. A new
+-- kind is a line in each of the first four definitions, and in src/kind.rt.
 use Rattle.std.specs.Prelude.{◌≡◌, ◌≢◌, ℕ, List, [], ◌∷◌, Option, Result, Ok, Err, codes, ◌==◌}
 use Rattle.std.specs.List.{find}
 use Rattle.shares.specs.Kind.{PrintedKind}

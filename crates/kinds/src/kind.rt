@@ -1,5 +1,5 @@
-// All that is said of each kind of share stands in this file and in specs/Kinds.antt. A new kind is a variant, a name, and a
-// line in each `match` here.
+// All that is said of each kind of share stands in this file and in specs/Kinds.antt. A new kind is a variant, a name,
+// and a line in each `match` here.
 ghost use Rattle.std.specs.Prelude.{◌≡◌, Some, IfSome};
 ghost use Rattle.kinds.specs.Kinds.{kind_name, kind_byte, kind_of_byte, Named};
 
@@ -56,8 +56,8 @@ impl FromStr for KindOfShare {
     }
 }
 
-/// Calls a function that is generic in the kind of share, at the kind that a value names. A caller brings in all of this
-/// crate. It is a macro, since a closure, a `dyn` or a function pointer has one type.
+/// Calls a function that is generic in the kind of share, at the kind that a value names. A caller brings in all of
+/// this crate. It is a macro, since a closure, a `dyn` or a function pointer has one type.
 #[macro_export]
 macro_rules! of_kind {
     ($kind:expr, $call:ident($($x:expr),*)) => {

@@ -1,5 +1,5 @@
-//! The kinds of share that the house uses. This crate alone lists them: a new kind is a crate of its own and lines here, in
-//! src/kind.rt and specs/Kinds.antt.
+//! The kinds of share that the house uses. This crate alone lists them: a new kind is a crate of its own and lines
+//! here, in src/kind.rt and specs/Kinds.antt.
 #![tactic(auto)]
 
 mod kind;

@@ -7,8 +7,8 @@ use shares::{Share, join_all};
 use std::alloc::{AllocError, Global};
 use std::iter::once;
 
-/// Plays a round with so many borrowers. Fewer are served if what the house still has doesn't halve any more. The shares come
-/// back in the order in which they were lent.
+/// Plays a round with so many borrowers. Fewer are served if what the house still has doesn't halve any more. The
+/// shares come back in the order in which they were lent.
 pub fn lend_and_return<S: Share>(alloc: Global, borrowers: usize) -> Result<Round<S>, AllocError>
     ensures lent { IfOk result (λ x. SharesLent S.kind borrowers S.kind.whole x.out) }
     ensures joins { IfOk result (λ x. JoinTo S.kind (all_shares x.out) S.kind.whole) }

@@ -4,8 +4,8 @@ ghost use Rattle.shares.specs.Text.{in_front};
 use crate::printed::LONGEST_TEXT;
 use digits::Digits;
 
-/// Writes a letter and a number in decimal at the front of a space, as kinds that count print their shares. Answers how many
-/// bytes that takes. The bytes after them stay as they are.
+/// Writes a letter and a number in decimal at the front of a space, as kinds that count print their shares. Answers how
+/// many bytes that takes. The bytes after them stay as they are.
 pub fn write_count(letter: u8, n: u16, space: &mut [u8; LONGEST_TEXT]) -> usize
     ensures length { result ≡ length (letter ∷ decimal n) }
     ensures bytes { space.new ≡ in_front (letter ∷ decimal n) space.old }

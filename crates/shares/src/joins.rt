@@ -4,8 +4,8 @@ ghost use Rattle.shares.specs.Joins.{Grouping, leaves, grouped, together, JoinsE
 
 use crate::share::Share;
 
-/// What some shares come to in whichever order and grouping they are joined, or None where they can't be held at once. Where
-/// there are no shares, it is the empty share.
+/// What some shares come to in whichever order and grouping they are joined, or None where they can't be held at once.
+/// Where there are no shares, it is the empty share.
 pub fn join_all<S: Share>(shares: &[S]) -> Option<S>
     ensures is { result ≡ together S.kind shares.now }
     ensures any_way { (g : Grouping S) → Perm (leaves g) shares.now → grouped S.kind g ≡ result }
@@ -14,8 +14,8 @@ pub fn join_all<S: Share>(shares: &[S]) -> Option<S>
     add_up(shares)
 }
 
-// The shares joined one after another, from the first on. The loop is a function of its own, so that a wrong call of it is
-// refused where it stands.
+// The shares joined one after another, from the first on. The loop is a function of its own, so that a wrong call of it
+// is refused where it stands.
 fn add_up<S: Share>(shares: &[S]) -> Option<S>
     ensures is { result ≡ together S.kind shares.now }
     ensures any_way { (g : Grouping S) → Perm (leaves g) shares.now → grouped S.kind g ≡ result }

@@ -12,8 +12,8 @@ pub trait Printed: Share {
     /// The bytes of a share's text.
     ghost text: { Self → List ℕ };
 
-    /// Writes the text at the front of a space, where there is always room for it, and answers its length. The bytes after it
-    /// stay as they are. It takes a space and makes no `String`, since an office has no heap.
+    /// Writes the text at the front of a space, where there is always room for it, and answers its length. The bytes
+    /// after it stay as they are. It takes a space and makes no `String`, since an office has no heap.
     fn write(self, space: &mut [u8; LONGEST_TEXT]) -> usize
         ensures length { result ≡ length (text self) }
         ensures bytes { space.new ≡ in_front (text self) space.old };

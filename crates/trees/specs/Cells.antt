@@ -47,7 +47,8 @@ share t = trees_of_cells (cells_of 6 t)
 abbrev pub union : Trees → Trees → Option Trees
 union a b = if bit_and a.cells b.cells == 0 then Some (trees_of_cells (bit_or a.cells b.cells)) else None
 
--- the cells kept and the cells lent where each filled leaf is cut in two; None if the set is empty or a filled leaf is one cell
+-- the cells kept and the cells lent where each filled leaf is cut in two; None if the set is empty or a filled leaf is
+-- one cell
 unfoldable pub cut : ℕ → Option (ℕ × ℕ)
 cut n =
     let t = tree_of 6 n in
