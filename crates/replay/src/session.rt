@@ -92,7 +92,7 @@ fn make_event<O: Office>(office: &mut O, event: Event, tallies: Tallies) -> Resu
     ensures idle { quiet O.Kind.kind (O.meaning office.old) (asks (code_and_operands event.entry.code event.entry.bytes.now)) ≡ true → office.new ≡ office.old }
     ensures keeps { Keeps O.Office office.old office.new }
 {
-    let (code, operands) = event.asked()?;
+    let (code, operands) = event.code_and_operands()?;
     let call = call_of(code, operands);
     let answer = make(office, call)?;
     let after = tallies.counted(call, Ok(answer)).unwrap();

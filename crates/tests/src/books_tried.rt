@@ -39,7 +39,7 @@ fn the_first_broken_rule_refuses(rt: HostRuntime) {
     assert_eq!(rt; refusal(&[255, 255, 0, 0, 0, 0, 1]), 41);
     assert_eq!(rt; refusal(&[1, 16, 0, 0, 0, 0, 1, 0]), 42);
     assert_eq!(rt; refusal(&[1, 0, 0, 0, 0, 0, 1, 0]), 43);
-    assert_eq!(rt; refusal(&[0, 16, 3, 0, 0, 0, 1, 0]), 43);
+    assert_eq!(rt; refusal(&[0, 16, 4, 0, 0, 0, 1, 0]), 43);
     assert_eq!(rt; refusal(&[1, 0, 1, 0, 0, 0, 1, 0]), 44);
     assert_eq!(rt; refusal(&[1, 0, 2, 0, 0, 0, 0, 1]), 44);
     assert_eq!(rt; refusal(&[1, 0, 1, 0, 0, 0, 0, 0]), 45);
@@ -65,8 +65,8 @@ fn an_unknown_code_comes_before_an_unused_operand(rt: HostRuntime) {
         code,
         bytes: &bytes,
     };
-    assert_eq!(rt; event(0).asked(), Err(BookReason::UnknownCode));
-    assert_eq!(rt; event(8).asked(), Err(BookReason::UnknownCode));
-    assert_eq!(rt; event(1).asked(), Err(BookReason::UnusedOperand));
-    assert_eq!(rt; event(2).asked(), Ok((Code::Delegate, [1, 2, 256])));
+    assert_eq!(rt; event(0).code_and_operands(), Err(BookReason::UnknownCode));
+    assert_eq!(rt; event(8).code_and_operands(), Err(BookReason::UnknownCode));
+    assert_eq!(rt; event(1).code_and_operands(), Err(BookReason::UnusedOperand));
+    assert_eq!(rt; event(2).code_and_operands(), Ok((Code::Delegate, [1, 2, 256])));
 }
