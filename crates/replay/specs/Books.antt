@@ -3,7 +3,7 @@ use Rattle.std.specs.Prelude.{◌≡◌, ℕ, ◌+◌, ◌≤◌, List, None, Is
 use Rattle.std.specs.declared.vec.Vec.{Vec}
 use Rattle.shares.specs.Kind.{Kind}
 use Rattle.office.specs.declared.office.Office.{Ghosts}
-use Rattle.office.specs.Calls.{EachFollows, Keeps}
+use Rattle.office.specs.Calls.{Keeps}
 use Rattle.book.specs.Books.{opening, event_count}
 use Rattle.calls.specs.declared.list.Tallies.{Tallies}
 use Rattle.calls.specs.Lists.{SomeOffice}

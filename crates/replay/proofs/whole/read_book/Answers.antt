@@ -1,10 +1,10 @@
-use Rattle.std.proofs.Common.{◌≡◌, ℕ, ◌<◌, ◌≤◌, None, Some, Ok, Err, Result, false, arith, refl, ap, sym, ◌∙◌}
-use Rattle.std.specs.Prelude.{nat_lt, if◌then◌else◌}
+use Rattle.std.proofs.Common.{◌≡◌, ℕ, None, Some, Ok, Err, Result, arith, ap}
+use Rattle.std.specs.Prelude.{if◌then◌else◌}
 use Rattle.std.proofs.lemmas.Bool.{le-ltb}
 use Rattle.book.specs.declared.header.Header.{Header}
 use Rattle.book.specs.Books.{opening}
 use Rattle.replay.specs.Events.{finishing}
-use Rattle.replay.specs.Faults.{RefusedEvent, without_level}
+use Rattle.replay.specs.Faults.{without_level}
 use Rattle.replay.specs.Whole.{Opens}
 use Rattle.replay.proofs.whole.read_book.Goals as goal
 
