@@ -1,8 +1,8 @@
--- Three layers over an office, and calls made through them.
-use Rattle.std.proofs.Common.{◌≡◌, ℕ, List, ◌∷◌, ap, ap₂, subst, ◌∙◌, refl, map, reverse}
+-- Calls made through the house's layers over an office.
+use Rattle.std.proofs.Common.{◌≡◌, ℕ, List, ap, ap₂, subst, ◌∙◌, refl, map, reverse}
 use Rattle.shares.specs.Kind.{Kind}
 use Rattle.lending.specs.Office.{State}
-use Rattle.lending.specs.Layers.{Own, Layers, layered}
+use Rattle.lending.specs.Layers.{Layers}
 use Rattle.lending.specs.Promise.{Conserved, LendingConserved}
 use Rattle.lending.proofs.Plays.{plays_are_histories_lem}
 use Rattle.calls.specs.declared.call.Call.{Call}
@@ -10,15 +10,10 @@ use Rattle.calls.specs.declared.list.Tallies.{Tallies}
 use Rattle.calls.specs.Values.{call_meant}
 use Rattle.calls.specs.Plays.{CallsPlayed}
 use Rattle.calls.specs.Plays.{play_in_turn}
-use Rattle.lender.specs.NewOffice.{layers, new_office, play_at_new}
+use Rattle.pile.specs.House.{house_layers}
+use Rattle.lender.specs.NewOffice.{new_office, play_at_new}
 
 module _ {S : Type 0} where
-  pub three_layers : (quota term chain : Own S) (a b c below : Layers S) → c ≡ chain ∷ below → b ≡ term ∷ c → a ≡ quota ∷ b → a ≡ quota ∷ term ∷ chain ∷ below
-  three_layers quota term chain a b c below e f g = g ∙ ap (λ (ls : Layers S). quota ∷ ls) (f ∙ ap (λ (ls : Layers S). term ∷ ls) e)
-
-  pub three_stand : (quota term chain : Own S) (a b c s : State S) → c ≡ layered chain s → b ≡ layered term c → a ≡ layered quota b → a ≡ layered quota (layered term (layered chain s))
-  three_stand quota term chain a b c s e f g = g ∙ ap (layered quota) (f ∙ ap (layered term) e)
-
   module _ (K : Kind S) where
     pub played_there : (ls others : Layers S) (s v t : State S) (calls : List Call) (tallies : Tallies) → ls ≡ others → s ≡ v → CallsPlayed K ls s calls tallies t → CallsPlayed K others v calls tallies (play_in_turn K others v calls).1
     played_there ls others s v t calls tallies e f p = subst (λ (l : Layers S). CallsPlayed K l v calls tallies (play_in_turn K l v calls).1) e (subst (λ (x : State S). CallsPlayed K ls x calls tallies (play_in_turn K ls x calls).1) f
@@ -35,7 +30,7 @@ module _ {S : Type 0} where
 
     pub made_conserved : LendingConserved K → (quota term chain rows : ℕ) (calls : List Call) → Conserved K (play_at_new K quota term chain rows calls).0 (play_at_new K quota term chain rows calls).1
     made_conserved always quota term chain rows calls =
-        let ls = layers quota term chain in
+        let ls = house_layers quota term chain in
         let s = new_office quota term chain rows in
         let cs = reverse (map call_meant calls) in
         always s (play_at_new K quota term chain rows calls).1 (record { no_leases = refl; none_issued = refl; first_day = refl }) (play_at_new K quota term chain rows calls).0 (plays_are_histories_lem K ls s cs)

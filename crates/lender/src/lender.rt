@@ -3,17 +3,15 @@ ghost use Rattle.lending.specs.Layers.{pile};
 ghost use Rattle.lending.specs.Promise.{Conserved, LendingConserved};
 ghost use Rattle.office.specs.Lawful.{unused};
 ghost use Rattle.calls.specs.Plays.{play_in_turn, CallsPlayed};
-ghost use Rattle.lender.specs.NewOffice.{layers, new_office, play_at_new};
+ghost use Rattle.pile.specs.House.{house_layers};
+ghost use Rattle.lender.specs.NewOffice.{new_office, play_at_new};
 
 use calls::{Call, Tallies, make_all};
-use chain::Chain;
-use layer::Layer;
 use ledger::Ledger;
 use lending::{Lease, lending_is_conserved};
 use office::{Office, Piled};
-use quota::Quota;
+use pile::house_pile;
 use shares::Share;
-use term::Term;
 
 /// Lends rows to a new office, Quota on Term on Chain on a ledger, makes a list of calls to it, and ends it. Answers how many
 /// leases the calls closed. The roll then stands in the first of the rows.
@@ -24,7 +22,7 @@ pub fn lend_rows<S: Share>(
     chain: u16,
     calls: &[Call],
 ) -> Tallies
-    ensures played { CallsPlayed S.kind (layers quota term chain) (new_office quota term chain (length rows.old)) calls.now result (play_at_new S.kind quota term chain (length rows.old) calls.now).1 }
+    ensures played { CallsPlayed S.kind (house_layers quota term chain) (new_office quota term chain (length rows.old)) calls.now result (play_at_new S.kind quota term chain (length rows.old) calls.now).1 }
     ensures roll { let t = (play_at_new S.kind quota term chain (length rows.old) calls.now).1 in take (length t.core.roll) rows.new ≡ t.core.roll }
     ensures unused { unused rows.new ≡ unused rows.old }
     ensures length { length rows.new ≡ length rows.old }
@@ -44,7 +42,7 @@ fn make_in<'a, S: Share>(
     chain: u16,
     calls: &[Call],
 ) -> (Tallies, &'a mut [Lease<S>])
-    ensures played { CallsPlayed S.kind (layers quota term chain) (new_office quota term chain (length rows.old)) calls.now result.0 (play_at_new S.kind quota term chain (length rows.old) calls.now).1 }
+    ensures played { CallsPlayed S.kind (house_layers quota term chain) (new_office quota term chain (length rows.old)) calls.now result.0 (play_at_new S.kind quota term chain (length rows.old) calls.now).1 }
     ensures roll { let t = (play_at_new S.kind quota term chain (length rows.old) calls.now).1 in take (length t.core.roll) result.1.now ≡ t.core.roll }
     ensures unused { unused result.1.now ≡ unused rows.old }
     ensures loan { result.1.ghost_name ≡ rows.entry.ghost_name }
@@ -55,29 +53,14 @@ fn make_in<'a, S: Share>(
 
 // The calls made through the three layers over an office. Gives that office back, beside the tallies.
 fn make_over<O: Piled>(below: O, quota: u16, term: u16, chain: u16, calls: &[Call]) -> (Tallies, O)
-    ensures played { let ls = layers quota term chain in CallsPlayed O.Kind.kind (ls ++ O.layers below) (pile ls (O.meaning below)) calls.now result.0 (play_in_turn O.Kind.kind (ls ++ O.layers below) (pile ls (O.meaning below)) calls.now).1 }
-    ensures roll { let ls = layers quota term chain in (O.meaning result.1).core.roll ≡ (play_in_turn O.Kind.kind (ls ++ O.layers below) (pile ls (O.meaning below)) calls.now).1.core.roll }
+    ensures played { let ls = house_layers quota term chain in CallsPlayed O.Kind.kind (ls ++ O.layers below) (pile ls (O.meaning below)) calls.now result.0 (play_in_turn O.Kind.kind (ls ++ O.layers below) (pile ls (O.meaning below)) calls.now).1 }
+    ensures roll { let ls = house_layers quota term chain in (O.meaning result.1).core.roll ≡ (play_in_turn O.Kind.kind (ls ++ O.layers below) (pile ls (O.meaning below)) calls.now).1.core.roll }
     ensures unused { unused (O.rows result.1) ≡ unused (O.rows below) }
     ensures loan { O.loan result.1 ≡ O.loan below }
 {
-    let mut office = pile_over(below, quota, term, chain);
+    let mut office = house_pile(below, quota, term, chain);
     let tallies = make_piled(&mut office, calls);
     (tallies, office.into_below().into_below().into_below())
-}
-
-// The three layers over an office, with their numbers.
-fn pile_over<O: Office>(
-    below: O,
-    quota: u16,
-    term: u16,
-    chain: u16,
-) -> Layer<Layer<Layer<O, Chain>, Term>, Quota>
-    ensures stands { ⟦<Layer<Layer<Layer<O, Chain>, Term>, Quota> as Office>⟧.meaning result ≡ pile (layers quota term chain) (O.meaning below) }
-    ensures layers { ⟦<Layer<Layer<Layer<O, Chain>, Term>, Quota> as Office>⟧.layers result ≡ layers quota term chain ++ O.layers below }
-    ensures rows { ⟦<Layer<Layer<Layer<O, Chain>, Term>, Quota> as Office>⟧.rows result ≡ O.rows below }
-    ensures loan { ⟦<Layer<Layer<Layer<O, Chain>, Term>, Quota> as Office>⟧.loan result ≡ O.loan below }
-{
-    Quota::over(Term::over(Chain::over(below, chain), term), quota)
 }
 
 // Makes the calls at an office whose objections follow from its layers, so that what they come to is worked out.

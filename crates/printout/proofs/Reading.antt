@@ -1,5 +1,5 @@
 -- What an office's printout shows can be read back.
-use Rattle.std.proofs.Common.{◌≡◌, ℕ, ◌<◌, ◌≤◌, List, [], ◌∷◌, map, true, nat_le, Ok, Err, Result, OnOk, refl, arith}
+use Rattle.std.proofs.Common.{◌≡◌, ℕ, ◌<◌, ◌≤◌, List, [], ◌∷◌, map, true, nat_le, Ok, Err, Result, OnOk, OnErr, refl, arith}
 use Rattle.std.specs.List.{AllByRecursion}
 use Rattle.std.proofs.lemmas.Bool.{leb-true, and_parts}
 use native.Mathlib.Bridge.{le_prop}
@@ -47,3 +47,8 @@ module _ {S : Type 0} (K : Kind S) (text : S → List ℕ) (unbroken : NoLineBre
 pub on_ok : {T E : Type 0} (r : Result T E) {P : Type 0} → P → OnOk r P
 on_ok (Ok x) p = p
 on_ok (Err e) p = tt
+
+-- and where there was none
+pub on_err : {T E : Type 0} (r : Result T E) {P : Type 0} → P → OnErr r P
+on_err (Ok x) p = tt
+on_err (Err e) p = p

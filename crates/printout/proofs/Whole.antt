@@ -2,7 +2,7 @@
 use Rattle.std.proofs.Common.{◌≡◌, ℕ, List, [], ◌∷◌, ◌++◌, map, length, take, drop, ◌-◌, length-drop, Bool, true, false, IsErr, append-nil, Ok, Err, Some, None, Result, refl, sym, ap, ap₂, ◌∙◌, subst, arith}
 use Rattle.shares.specs.Kind.{Kind}
 use Rattle.lending.specs.Office.{State}
-use Rattle.lending.specs.Layers.{Own, Layers, layered}
+use Rattle.lending.specs.Layers.{Layers}
 use Rattle.book.specs.declared.header.Header.{Header}
 use Rattle.book.specs.Books.{opening, event_count}
 use Rattle.calls.specs.declared.list.Tallies.{Tallies}

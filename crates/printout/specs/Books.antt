@@ -8,7 +8,7 @@ use Rattle.office.specs.declared.office.Office.{Ghosts}
 use Rattle.office.specs.Calls.{Keeps}
 use Rattle.book.specs.Books.{opening, event_count}
 use Rattle.replay.specs.declared.fault.Fault.{Fault}
-use Rattle.replay.specs.Faults.{RefusedEvent, refused_event}
+use Rattle.replay.specs.Faults.{refused_event}
 use Rattle.replay.specs.Books.{added, BookQuiet}
 use Rattle.printout.specs.Adds.{Begins}
 use Rattle.printout.specs.Contents.{Contents, printout_bytes}

@@ -1,5 +1,5 @@
 -- What a printout shows can be read back.
-use Rattle.std.specs.Prelude.{◌≡◌, ℕ, ◌<◌, ◌^◌, List, [], IfSome, IfNone}
+use Rattle.std.specs.Prelude.{◌≡◌, ℕ, ◌<◌, ◌^◌, [], IfSome, IfNone}
 use Rattle.std.specs.List.{AllByRecursion}
 use Rattle.shares.specs.Text.{Lacks}
 use Rattle.lines.specs.declared.line.totals.Totals.{Totals}

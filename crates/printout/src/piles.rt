@@ -1,6 +1,6 @@
 ghost use Rattle.std.specs.Prelude.{◌≡◌, ◌++◌, IfOk, OnOk};
 ghost use Rattle.lending.specs.Layers.{pile};
-ghost use Rattle.pile.specs.House.{PiledOn};
+ghost use Rattle.pile.specs.House.{house_layers, PiledOn};
 ghost use Rattle.book.specs.Numbers.{book_reason_number};
 ghost use Rattle.printout.specs.Printouts.{contents};
 ghost use Rattle.printout.specs.Readable.{IsReadable};
@@ -56,7 +56,7 @@ fn print_new<S: Printed>(alloc: Global, header: Header, book: &[u8]) -> Result<V
     ensures conserved { ConservedIn header S.kind book.now }
 {
     lending_is_conserved::<S>();
-    let free = Lease::free();
+    let free = Lease::<S>::free();
     let mut rows = vec![in alloc; free; MOST_ROWS]?;
     print_over(alloc, Ledger::new(rows.as_mut_slice()), header, book)
 }
@@ -73,16 +73,20 @@ where
     ensures prints { IfOk result (λ printout. printout.items ≡ printout_bytes (contents O.Kind.kind (book_layers header ++ O.layers below) O.Kind.text book.now (pile (book_layers header) (O.meaning below)))) }
     ensures readable { OnOk result (IsReadable (contents O.Kind.kind (book_layers header ++ O.layers below) O.Kind.text book.now (pile (book_layers header) (O.meaning below)))) }
 {
-    let mut office = book_pile(below, header);
+    let mut office = book_pile(below, header.term, u16::from(header.chain));
     let mut faults = Vec::new(alloc);
     let mut out = Vec::new(alloc);
     print_book(&mut office, book, &mut faults, &mut out)?;
     Ok(out)
 }
 
-// The layers of a book's office over another.
-fn book_pile<O: Office>(below: O, header: Header) -> Layer<Layer<Layer<O, Chain>, Term>, Quota>
-    ensures { PiledOn ⟦<Layer<Layer<Layer<O, Chain>, Term>, Quota> as Office>⟧ O.Office (book_layers header) result below }
+// The layers of a book's office over another, by the numbers in its header.
+fn book_pile<O: Office>(
+    below: O,
+    term: u16,
+    chain: u16,
+) -> Layer<Layer<Layer<O, Chain>, Term>, Quota>
+    ensures piled { PiledOn ⟦<Layer<Layer<Layer<O, Chain>, Term>, Quota> as Office>⟧ O.Office (house_layers 64 term chain) result below }
 {
-    house_pile(below, QUOTA, header.term, u16::from(header.chain))
+    house_pile(below, QUOTA, term, chain)
 }
