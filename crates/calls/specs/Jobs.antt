@@ -47,20 +47,30 @@ module _ {S : Type 0} where
   abbrev pub one_or_go_on : office.Answer S → ℕ × Option Refusal → ℕ × Option Refusal
   one_or_go_on a rest = if_refused a (λ r. (1, Some r)) (rest.0 + 1, rest.1)
 
-  -- how many of some calls are made until one is refused, and its refusal, at an office with these layers that stands for s
+  -- how many of some calls are made until one is refused, and its refusal, at an office with these layers that stands
+  -- for s
   abbrev pub until_refused : Kind S → Layers S → State S → List Call → ℕ × Option Refusal
   until_refused K layers s [] = (0, None)
-  until_refused K layers s (c ∷ cs) = let o = perform K s (call_meant c) in one_or_go_on (outcome_answer o) (until_refused K layers (state_after layers o s) cs)
+  until_refused K layers s (c ∷ cs) =
+      let o = perform K s (call_meant c) in one_or_go_on (outcome_answer o)
+      (until_refused K layers (state_after layers o s) cs)
 
 module _ {O S : Type 0} (K : Kind S) (it : Ghosts O S) (before : O) where
   -- Of some calls the first so many were made, up to the one that was refused, or all: they led to the office after.
-  pub record Until (calls : List Call) (many : ℕ) (refusal : Option code.Refusal) (tallies : Tallies) (after : O) : Type 0 where
+  pub record Until (calls : List Call) (many : ℕ) (refusal : Option code.Refusal) (tallies : Tallies) (after : O)
+      : Type 0 where
     pub some : many ≤ length calls
     pub made : ListMade K it before (take many calls) tallies after
     pub ended : EndedBy refusal made.history
     pub all : refusal ≡ None → many ≡ length calls
     -- where objections follow from the layers it is worked out how many
-    pub known : EachFollows it → (many, refusal_if_any refusal) ≡ until_refused K (it.layers before) (it.meaning before) calls
+    pub known : EachFollows it → (many, refusal_if_any refusal)
+        ≡ until_refused K (it.layers before) (it.meaning before) calls
+
+  -- the hand-in of a job, at the office between
+  abbrev pub hand_in_moment : ℕ → Job → O → Moment S
+  hand_in_moment lease job between =
+      record { before = it.meaning between; call = hand_in lease; answer = number job.closed }
 
   -- A job did some calls until one was refused, and then handed in a slip for the lease.
   pub record JobDone (lease : ℕ) (calls : List Call) (job : Job) (after : O) : Type 0 where
@@ -69,7 +79,9 @@ module _ {O S : Type 0} (K : Kind S) (it : Ghosts O S) (before : O) where
     pub calls_made : Until calls job.made job.refusal job.tallies between
     pub handed_in : Does K (it.meaning between) (hand_in lease) (number job.closed) (it.meaning after)
     -- all of it is one list of calls, and one history: that of the calls with the hand-in after them
-    pub made : ListMade K it before (take job.made calls ++ (HandIn lease ∷ [])) (tallies_with {S = S} job.tallies (hand_in lease) (number job.closed)) after
-    pub one_history : made.history ≡ record { before = it.meaning between; call = hand_in lease; answer = number job.closed } ∷ calls_made.made.history
+    pub made : ListMade K it before (take job.made calls ++ (HandIn lease ∷ []))
+        (tallies_with {S = S} job.tallies (hand_in lease) (number job.closed)) after
+    pub one_history : made.history ≡ hand_in_moment lease job between ∷ calls_made.made.history
     -- where objections follow from the layers, it is played
-    pub played : ListPlayed K it before (take job.made calls ++ (HandIn lease ∷ [])) (tallies_with {S = S} job.tallies (hand_in lease) (number job.closed)) after
+    pub played : ListPlayed K it before (take job.made calls ++ (HandIn lease ∷ []))
+        (tallies_with {S = S} job.tallies (hand_in lease) (number job.closed)) after

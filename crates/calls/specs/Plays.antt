@@ -12,12 +12,13 @@ use Rattle.calls.specs.declared.list.Tallies.{Tallies}
 use Rattle.calls.specs.Values.{call_meant}
 
 module _ {S : Type 0} (K : Kind S) (layers : Layers S) (s : State S) (calls : List Call) where
-  -- what the calls come to, made in their order: each with its answer, the last one first, and the state that they lead to
+  -- what the calls come to, made in their order: each with its answer, the last one first, and the state that they lead
+  -- to
   abbrev pub play_in_turn : List (Moment S) × State S
   play_in_turn = play K layers s (reverse (map call_meant calls))
 
-  -- The calls were made in their order, each once, to an office with these layers that stood for s: it answered what the
-  -- definitions answer, stands for the state that they lead to, and closed what those answers say.
+  -- The calls were made in their order, each once, to an office with these layers that stood for s: it answered what
+  -- the definitions answer, stands for the state that they lead to, and closed what those answers say.
   pub record CallsPlayed (tallies : Tallies) (t : State S) : Type 0 where
     pub leaves : t ≡ play_in_turn.1
     pub yields : tallies.yielded ≡ yielded play_in_turn.0
@@ -27,4 +28,5 @@ module _ {S : Type 0} (K : Kind S) (layers : Layers S) (s : State S) (calls : Li
 
 -- Where the objections of every such office follow from its layers, the calls led one to the other as they are played.
 abbrev pub ListPlayed : {O S : Type 0} → Kind S → Ghosts O S → O → List Call → Tallies → O → Type 0
-ListPlayed {O} K it before calls tallies after = EachFollows it → CallsPlayed K (it.layers before) (it.meaning before) calls tallies (it.meaning after)
+ListPlayed {O} K it before calls tallies after =
+    EachFollows it → CallsPlayed K (it.layers before) (it.meaning before) calls tallies (it.meaning after)

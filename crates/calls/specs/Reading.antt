@@ -1,5 +1,6 @@
 -- What is read of a text: the call that its words say.
-use Rattle.std.specs.Prelude.{◌≡◌, ℕ, ◌<◌, ◌^◌, ◌↔◌, ⊤, if◌then◌else◌, List, [], ◌∷◌, ◌++◌, drop, All, Ok, Result, Option, Some, None, chars, encode_utf8}
+use Rattle.std.specs.Prelude.{◌≡◌, ℕ, ◌<◌, ◌^◌, ◌↔◌, ⊤, if◌then◌else◌, List, [], ◌∷◌, ◌++◌, drop, All, Ok, Result}
+use Rattle.std.specs.Prelude.{Option, Some, None, chars, encode_utf8}
 use Rattle.std.specs.Char.{is_whitespace}
 use Rattle.std.specs.Str.Parse.{IsNumeral, digits_value, without_leading_plus}
 use Rattle.calls.specs.declared.call.Call.{Call}
@@ -13,7 +14,8 @@ with_word (b ∷ bs) others = (b ∷ bs) ∷ others
 -- the words, where a word has begun and these characters follow
 abbrev pub words_from : List ℕ → List ℕ → List (List ℕ)
 words_from word [] = with_word word []
-words_from word (c ∷ cs) = if is_whitespace c then with_word word (words_from [] cs) else words_from (word ++ encode_utf8 c) cs
+words_from word (c ∷ cs) =
+    if is_whitespace c then with_word word (words_from [] cs) else words_from (word ++ encode_utf8 c) cs
 
 -- the words of a text, with white space of any kind between, before and after them
 abbrev pub words_of : List ℕ → List (List ℕ)
@@ -21,7 +23,8 @@ words_of text = words_from [] (chars text)
 
 -- The word says the number: in digits, of which the first may be zeros, after one plus sign or none.
 abbrev pub SaysNumber : List ℕ → ℕ → Type 0
-SaysNumber word n = IsNumeral 10 (without_leading_plus word) × (digits_value 10 (without_leading_plus word) ≡ n) × (n < 2 ^ 16)
+SaysNumber word n =
+    IsNumeral 10 (without_leading_plus word) × (digits_value 10 (without_leading_plus word) ≡ n) × (n < 2 ^ 16)
 
 -- Each word says the number in its place, and none is left over.
 abbrev pub SayNumbers : List (List ℕ) → List ℕ → Type 0

@@ -2,11 +2,13 @@
 use Rattle.std.specs.Prelude.{Ok, Err, Result}
 use Rattle.lending.specs.declared.refusal.Refusal.{Refusal}
 use Rattle.lending.specs.Outcome as office
-use Rattle.lending.specs.Outcome.Call.{open_resource, delegate, yield, merge, assign, new_day, ask_count, ask_issued, ask_today, ask_lease_at, ask_lease, recall, day, standing, hand_in}
+use Rattle.lending.specs.Outcome.Call.{open_resource, delegate, yield, merge, assign, new_day, ask_count, ask_issued}
+use Rattle.lending.specs.Outcome.Call.{ask_today, ask_lease_at, ask_lease, recall, day, standing, hand_in}
 use Rattle.lending.specs.Outcome.Answer.{done, number, lease, share, refused}
 use Rattle.lending.specs.Answers.{refusal_meant}
 use Rattle.calls.specs.declared.call.Call.{Call}
-use Rattle.calls.specs.declared.call.Call.TheVariants.{Open, Delegate, Yield, Merge, Assign, SetDay, Count, Issued, Today, LeaseAt, LeaseOf, Recall, Day, Standing, HandIn}
+use Rattle.calls.specs.declared.call.Call.TheVariants.{Open, Delegate, Yield, Merge, Assign, SetDay, Count, Issued}
+use Rattle.calls.specs.declared.call.Call.TheVariants.{Today, LeaseAt, LeaseOf, Recall, Day, Standing, HandIn}
 use Rattle.calls.specs.declared.call.Answer.{Answer}
 use Rattle.calls.specs.declared.call.Answer.TheVariants as answers
 

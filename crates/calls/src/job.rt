@@ -39,7 +39,8 @@ struct Stopped {
 #[tactic(auto, using(crate::proofs::Jobs::job_done))]
 pub fn do_job<O: Office>(office: &mut O, lease: u16, calls: &[Call]) -> Job
     ensures done { JobDone O.Kind.kind O.Office office.old lease calls.now result office.new }
-    ensures idle { AllIdle O.Kind.kind (O.meaning office.old) calls.now → idle (perform O.Kind.kind (O.meaning office.old) (hand_in lease)) ≡ true → office.new ≡ office.old }
+    ensures idle { AllIdle O.Kind.kind (O.meaning office.old) calls.now
+        → idle (perform O.Kind.kind (O.meaning office.old) (hand_in lease)) ≡ true → office.new ≡ office.old }
     ensures keeps { Keeps O.Office office.old office.new }
     ensures always { LendingConserved O.Kind.kind }
 {
@@ -66,10 +67,12 @@ pub fn do_job<O: Office>(office: &mut O, lease: u16, calls: &[Call]) -> Job
     }
 }
 
-// Makes some calls until one is refused. The loop is by itself so that a wrong call of it is refused where it stands, and not in
-// the proof of the loop.
+// Makes some calls until one is refused. (A function of its own, so that a wrong call of it is refused in the line that
+// calls it, and not in the proof of the loop.)
 fn make_until_refused<O: Office>(office: &mut O, calls: &[Call]) -> Result<Tallies, Stopped>
-    ensures until { MatchResult result (λ tallies. Until O.Kind.kind O.Office office.old calls.now (length calls.now) None tallies office.new) (λ stopped. Until O.Kind.kind O.Office office.old calls.now stopped.made (Some stopped.refusal) stopped.tallies office.new) }
+    ensures until { MatchResult result (λ tallies. Until O.Kind.kind O.Office office.old calls.now (length calls.now)
+        None tallies office.new) (λ stopped. Until O.Kind.kind O.Office office.old calls.now stopped.made
+        (Some stopped.refusal) stopped.tallies office.new) }
     ensures idle { AllIdle O.Kind.kind (O.meaning office.old) calls.now → office.new ≡ office.old }
     ensures keeps { Keeps O.Office office.old office.new }
     ensures always { LendingConserved O.Kind.kind }

@@ -1,5 +1,5 @@
-//! Calls to an office as values: how they are written and read, and how they are made, one by one, a whole list, or as a job with a
-//! slip beside the office; with the lending promise on each as on the calls of `desk`.
+//! Calls to an office as values: how they are written and read, and how they are made, one by one, a whole list, or as
+//! a job with a slip beside the office; with the lending promise on each as on the calls of `desk`.
 #![tactic(auto)]
 
 mod call;

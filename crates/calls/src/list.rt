@@ -30,7 +30,8 @@ impl Tallies {
         call: Call,
         answer: Result<Answer<S>, Refusal>,
     ) -> Option<Tallies>
-        ensures { MatchOption result (TooLarge (tallies_with self (call_meant call) (answer_meant answer))) (λ after. after ≡ tallies_with self (call_meant call) (answer_meant answer)) }
+        ensures { MatchOption result (TooLarge (tallies_with self (call_meant call) (answer_meant answer)))
+            (λ after. after ≡ tallies_with self (call_meant call) (answer_meant answer)) }
     {
         Some(match (call, answer) {
             (Call::Yield { .. }, Ok(Answer::Done)) => Tallies {
@@ -67,8 +68,8 @@ pub fn make_all<O: Office>(office: &mut O, calls: &[Call]) -> Tallies
     make_each(office, calls)
 }
 
-// The calls made from the first on. The loop is by itself so that a wrong call of it is refused where it stands, and not in
-// the proof of the loop.
+// The calls made from the first on. (A function of its own, so that a wrong call of it is refused in the line that calls
+// it, and not in the proof of the loop.)
 fn make_each<O: Office>(office: &mut O, calls: &[Call]) -> Tallies
     ensures made { ListMade O.Kind.kind O.Office office.old calls.now result office.new }
     ensures played { ListPlayed O.Kind.kind O.Office office.old calls.now result office.new }

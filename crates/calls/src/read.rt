@@ -76,7 +76,8 @@ fn no_word_left(words: &mut SplitWhitespace) -> Result<(), NotACall>
 
 // The call with this name and these numbers.
 fn call_of(name: &str, numbers: [Option<u16>; 3]) -> Result<Call, NotACall>
-    ensures named { (call : Call) → name.now ≡ call_name call → numbers ≡ first_three (call_numbers call) → result ≡ Ok call }
+    ensures named { (call : Call) → name.now ≡ call_name call → numbers ≡ first_three (call_numbers call)
+        → result ≡ Ok call }
     ensures only { IfOk result (λ call. (name.now ≡ call_name call) × (numbers ≡ first_three (call_numbers call))) }
 {
     match numbers {

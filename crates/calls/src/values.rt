@@ -20,7 +20,8 @@ use shares::Share;
 pub fn make<O: Office>(office: &mut O, call: Call) -> Result<Answer<O::Kind>, Refusal>
     ensures performs { Performs O.Kind.kind O.Office (call_meant call) (answer_meant result) office.old office.new }
     ensures one_result { CallsLeaveNoChoice O.Kind.kind }
-    ensures idle { idle (perform O.Kind.kind (O.meaning office.old) (call_meant call)) ≡ true → office.new ≡ office.old }
+    ensures idle { idle (perform O.Kind.kind (O.meaning office.old) (call_meant call)) ≡ true
+        → office.new ≡ office.old }
     ensures conserved { Conserves O.Kind.kind O.Office (call_meant call) (answer_meant result) office.old office.new }
     ensures always { LendingConserved O.Kind.kind }
 {
@@ -33,7 +34,8 @@ pub fn make<O: Office>(office: &mut O, call: Call) -> Result<Answer<O::Kind>, Re
 #[tactic(auto, using(lending::proofs::Idling::idle_open, lending::proofs::Idling::idle_delegate, lending::proofs::Idling::idle_yield, lending::proofs::Idling::idle_merge, lending::proofs::Idling::idle_assign, lending::proofs::Idling::idle_day, lending::proofs::Idling::idle_recall, lending::proofs::Idling::idle_next))]
 fn ask<O: Office>(office: &mut O, call: Call) -> Result<Answer<O::Kind>, Refusal>
     ensures performs { Performs O.Kind.kind O.Office (call_meant call) (answer_meant result) office.old office.new }
-    ensures idle { idle (perform O.Kind.kind (O.meaning office.old) (call_meant call)) ≡ true → office.new ≡ office.old }
+    ensures idle { idle (perform O.Kind.kind (O.meaning office.old) (call_meant call)) ≡ true
+        → office.new ≡ office.old }
 {
     match call {
         Call::Open { resource, holder } => {

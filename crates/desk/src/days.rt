@@ -4,10 +4,9 @@ ghost use Rattle.lending.specs.Calls.{bad_day, due_by};
 ghost use Rattle.lending.specs.Effects.{DayComes};
 ghost use Rattle.lending.specs.Outcome.Answer.{number};
 ghost use Rattle.lending.specs.Outcome.Call.{day as next_day};
-ghost use Rattle.lending.specs.Perform.{Does};
 ghost use Rattle.lending.specs.Promise.{LendingConserved};
 ghost use Rattle.lending.specs.Answers.{number_or_refused};
-ghost use Rattle.office.specs.Calls.{Performs, Keeps, Conserves};
+ghost use Rattle.office.specs.Calls.{Performs, Conserves};
 
 use crate::sweep::{Numbers, yield_down};
 use lending::{LAST_DAY, Reason, Refusal, lending_is_conserved};

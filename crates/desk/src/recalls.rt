@@ -4,11 +4,10 @@ ghost use Rattle.std.specs.List.Sorted.{IsNonDecreasingBy};
 ghost use Rattle.lending.specs.Effects.{TakesBack};
 ghost use Rattle.lending.specs.Outcome.Answer.{number};
 ghost use Rattle.lending.specs.Outcome.Call.{recall};
-ghost use Rattle.lending.specs.Perform.{Does};
 ghost use Rattle.lending.specs.Promise.{LendingConserved};
 ghost use Rattle.lending.specs.Roll.{live, family};
 ghost use Rattle.lending.specs.Answers.{number_or_refused};
-ghost use Rattle.office.specs.Calls.{Performs, Keeps, Conserves};
+ghost use Rattle.office.specs.Calls.{Performs, Conserves};
 
 use crate::sweep::{Numbers, yield_down};
 use lending::{Reason, Refusal, lending_is_conserved};
@@ -39,8 +38,8 @@ fn take_back<O: Office>(office: &mut O, lease: u16) -> usize
     numbers.len()
 }
 
-// The numbers of a lease and of all live leases under it. A lender's number is lower, so that one pass over the roll finds
-// them.
+// The numbers of a lease and of all live leases under it. A lender's number is lower, so that one pass over the roll
+// finds them.
 fn family_of<O: Office>(office: &O, top: u16) -> Numbers
     requires { live (O.meaning office.now).core.roll top ≡ true }
     ensures { result.items ≡ map (λ l. l.number) (family (O.meaning office.now).core.roll top) }

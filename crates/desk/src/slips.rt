@@ -2,18 +2,19 @@ ghost use Rattle.std.specs.Prelude.{◌≡◌, true, false};
 ghost use Rattle.lending.specs.Effects.{TakesBack};
 ghost use Rattle.lending.specs.Outcome.Answer.{number};
 ghost use Rattle.lending.specs.Outcome.Call.{hand_in};
-ghost use Rattle.lending.specs.Perform.{perform, Does};
+ghost use Rattle.lending.specs.Perform.{perform};
 ghost use Rattle.lending.specs.Idle.{idle};
 ghost use Rattle.lending.specs.Promise.{LendingConserved};
-ghost use Rattle.office.specs.Calls.{Performs, Keeps, Conserves};
+ghost use Rattle.office.specs.Calls.{Performs, Conserves};
 ghost use Rattle.desk.specs.Slips.{lease_of, was_handed_in};
 
 use crate::recalls::recall;
 use lending::lending_is_conserved;
 use office::Office;
 
-/// A slip for a lease of any number. It must be handed in, just once: it can't be copied, handing it in uses it up, and a program
-/// that lets one go before, on whichever way out, is refused by the check, which asks at each drop that it was handed in.
+/// A slip for a lease of any number. It must be handed in, just once: it can't be copied, handing it in uses it up, and
+/// a program that lets one go before, on whichever way out, is refused by the check, which asks at each drop that it
+/// was handed in.
 pub struct Slip {
     lease: u16,
     handed_in: bool,

@@ -13,7 +13,8 @@ use office::Office;
 // Numbers of leases, by rising number. They lie in the value itself, since an office has no heap.
 pub(crate) type Numbers = ArrayVec<u16, MOST_ROWS>;
 
-// Yields these leases from the last to the first. Where the definitions grant all of those yields, this leaves what they do.
+// Yields these leases from the last to the first. Where the definitions grant all of those yields, this leaves what
+// they do.
 pub(crate) fn yield_down<O: Office>(office: &mut O, numbers: &[u16])
     ensures leaves { (u : State O.Kind) → yields O.Kind.kind (O.meaning office.old) (reverse numbers.now)
         ≡ grants done u → (O.meaning office.new).core ≡ u.core }

@@ -15,5 +15,6 @@ module _ {O S : Type 0} (it : Ghosts O S) where
 
   -- It performs the call, and flips if that was granted.
   pub record FicklePerforms (K : Kind S) (c : Call) (a : Answer S) (was now : Fickle O) : Type 0 where
-    pub performs : PerformsBy (λ f. it.rows f.below) (λ f. it.loan f.below) (λ f. it.layers f.below) K fickle_meaning c a was now
+    pub performs : PerformsBy (λ f. it.rows f.below) (λ f. it.loan f.below) (λ f. it.layers f.below) K fickle_meaning c
+        a was now
     pub turns : now.closed ≡ flip (not (is_refused a)) was.closed

@@ -9,5 +9,7 @@ use Rattle.layer.specs.Lawful.{layer_lawful}
 use Rattle.fickle.specs.declared.fickle.Fickle.{Fickle}
 use Rattle.fickle.specs.Objects.{fickle_rule}
 
-pub fickle_lawful : {O S : Type 0} (means : O → State S) (rows : O → List (Lease S)) → ((o : O) → Lawful (means o) (rows o)) → (fickle : Fickle O) → Lawful (layered (fickle_rule fickle.closed) (means fickle.below)) (rows fickle.below)
+pub fickle_lawful : {O S : Type 0} (means : O → State S) (rows : O → List (Lease S))
+    → ((o : O) → Lawful (means o) (rows o)) → (fickle : Fickle O)
+    → Lawful (layered (fickle_rule fickle.closed) (means fickle.below)) (rows fickle.below)
 fickle_lawful {O} {S} means rows lawful fickle = layer_lawful {R = Bool} means rows (fickle_rule {S = S}) lawful (record { below = fickle.below; rule = fickle.closed })

@@ -10,7 +10,8 @@ use Rattle.calls.specs.Lists.{CallsMade}
 use Rattle.fickle.specs.declared.working.Answers.{Answers}
 
 -- An open, a recall and a list of calls were made, each to what the one before it left, and led from s to t.
-pub record Worked {S : Type 0} (K : Kind S) (Of : State S → Type 0) (s : State S) (resource holder lease : ℕ) (calls : List Call) (answers : Answers) (t : State S) : Type 0 where
+pub record Worked {S : Type 0} (K : Kind S) (Of : State S → Type 0) (s : State S) (resource holder lease : ℕ)
+    (calls : List Call) (answers : Answers) (t : State S) : Type 0 where
   pub after_open : State S
   pub after_recall : State S
   pub opens : Does K s (open_resource resource holder) (number_or_refused answers.opened) after_open

@@ -1,18 +1,16 @@
-ghost use Rattle.std.specs.Prelude.{◌≡◌, false, is_ok, MatchResult};
+ghost use Rattle.std.specs.Prelude.{◌≡◌, false, MatchResult};
 ghost use Rattle.lending.specs.Office.{SetUp};
 ghost use Rattle.lending.specs.Office.Request.{opening};
 ghost use Rattle.lending.specs.Outcome.Call.{open_resource, delegate, yield, merge, assign, new_day};
-ghost use Rattle.lending.specs.Perform.{Does};
 ghost use Rattle.lending.specs.Answers.{reason_number, done_or_refused, number_or_refused};
-ghost use Rattle.office.specs.Calls.{Keeps};
 ghost use Rattle.fickle.specs.Calls.{FicklePerforms, fickle_meaning};
 ghost use Rattle.fickle.specs.Objects.{fickle_objects, flip, fickle_state};
 
 use lending::{Lease, Reason, Refusal};
 use office::Office;
 
-/// An office over another, with an objection of its own that no roll and no day tells: each granted call closes it to opens, or
-/// lets them through again.
+/// An office over another, with an objection of its own that no roll and no day tells: each granted call closes it to
+/// opens, or lets them through again.
 #[derive(Drop)]
 pub struct Fickle<O> {
     below: O,
@@ -36,7 +34,9 @@ impl<O: Office> Fickle<O> {
 
     // Refuses an open while it is closed.
     fn allow(&self, resource: u16, holder: u16) -> Result<(), Refusal>
-        ensures { let s = O.meaning self.now.below in let mine = fickle_objects self.now.closed s.core.roll s.core.today (opening resource holder) in MatchResult result (λ x. mine ≡ None) (λ refusal. (mine ≡ Some (reason_number refusal.reason)) × (refusal.level ≡ 0)) }
+        ensures { let s = O.meaning self.now.below in let mine = fickle_objects self.now.closed s.core.roll s.core.today
+            (opening resource holder) in MatchResult result (λ x. mine ≡ None)
+            (λ refusal. (mine ≡ Some (reason_number refusal.reason)) × (refusal.level ≡ 0)) }
     {
         if self.closed {
             return Err(Reason::OverQuota.into());
@@ -93,7 +93,8 @@ impl<O: Office> Office for Fickle<O> {
 
     #[tactic(auto, using(crate::proofs::Turning::opened))]
     fn open(&mut self, resource: u16, holder: u16) -> Result<u16, Refusal>
-        ensures { FicklePerforms O.Office O.Kind.kind (open_resource resource holder) (number_or_refused result) self.old self.new }
+        ensures { FicklePerforms O.Office O.Kind.kind (open_resource resource holder) (number_or_refused result)
+            self.old self.new }
     {
         self.allow(resource, holder)?;
         let answer = self.below.open(resource, holder).map_err(Refusal::raised);
@@ -103,7 +104,8 @@ impl<O: Office> Office for Fickle<O> {
 
     #[tactic(auto, using(crate::proofs::Turning::delegated))]
     fn delegate(&mut self, lender: u16, holder: u16, due: u16) -> Result<u16, Refusal>
-        ensures { FicklePerforms O.Office O.Kind.kind (delegate lender holder due) (number_or_refused result) self.old self.new }
+        ensures { FicklePerforms O.Office O.Kind.kind (delegate lender holder due) (number_or_refused result)
+            self.old self.new }
     {
         let answer = self
             .below

@@ -1,5 +1,5 @@
-//! An office whose objections flip at each granted call. They follow from no layers, and it is an office all the same: what is
-//! promised of every office is promised of it.
+//! An office whose objections flip at each granted call. They follow from no layers, and it is an office all the same:
+//! what is promised of every office is promised of it.
 #![tactic(auto)]
 
 mod fickle;

@@ -33,7 +33,8 @@ pub fn work<O: Office>(
     lease: u16,
     calls: &[Call],
 ) -> Answers
-    ensures worked { Worked O.Kind.kind (SomeOffice O.Office (O.layers office.old)) (O.meaning office.old) resource holder lease calls.now result (O.meaning office.new) }
+    ensures worked { Worked O.Kind.kind (SomeOffice O.Office (O.layers office.old)) (O.meaning office.old) resource
+        holder lease calls.now result (O.meaning office.new) }
     ensures keeps { Keeps O.Office office.old office.new }
     ensures always { LendingConserved O.Kind.kind }
 {
@@ -47,8 +48,9 @@ pub fn work<O: Office>(
     }
 }
 
-/// The same at a fickle office over a new ledger. What it objects to in between follows from nothing that the definitions know, so
-/// that its contract says of the last state only that there is one; a test pins when the office flips.
+/// The same at a fickle office over a new ledger. What it objects to in between follows from nothing that the
+/// definitions know, so that its contract says of the last state only that there is one; a test pins when the office
+/// flips.
 pub fn work_fickle<'a, S: Share>(
     rows: &'a mut [Lease<S>],
     resource: u16,
@@ -56,13 +58,15 @@ pub fn work_fickle<'a, S: Share>(
     lease: u16,
     calls: &[Call],
 ) -> Answers
-    ensures worked { (t : State S) × Worked S.kind (SomeOffice ⟦<Fickle<Ledger<'a, S>> as Office>⟧ []) (fickle_state false (new_ledger (min most_rows (length rows.old)))) resource holder lease calls.now result t }
+    ensures worked { (t : State S) × Worked S.kind (SomeOffice ⟦<Fickle<Ledger<'a, S>> as Office>⟧ [])
+        (fickle_state false (new_ledger (min most_rows (length rows.old)))) resource holder lease calls.now result t }
     ensures always { LendingConserved S.kind }
 {
     work_at_new(rows, resource, holder, lease, calls)
 }
 
-// Sets that office up. It is by itself since its proof is written by hand, and would be the first to refuse a wrong number.
+// Sets that office up. (A function of its own, since its proof is written by hand, and would be the first to refuse a
+// wrong number.)
 fn work_at_new<'a, S: Share>(
     rows: &'a mut [Lease<S>],
     resource: u16,
@@ -70,7 +74,8 @@ fn work_at_new<'a, S: Share>(
     lease: u16,
     calls: &[Call],
 ) -> Answers
-    ensures worked { (t : State S) × Worked S.kind (SomeOffice ⟦<Fickle<Ledger<'a, S>> as Office>⟧ []) (fickle_state false (new_ledger (min most_rows (length rows.old)))) resource holder lease calls.now result t }
+    ensures worked { (t : State S) × Worked S.kind (SomeOffice ⟦<Fickle<Ledger<'a, S>> as Office>⟧ [])
+        (fickle_state false (new_ledger (min most_rows (length rows.old)))) resource holder lease calls.now result t }
     ensures always { LendingConserved S.kind }
 {
     let mut office = Fickle::over(Ledger::new(rows));

@@ -38,7 +38,9 @@ impl<O: Office, R: Rule<O>> Layer<O, R> {
 
     // Refuses what the rule objects to.
     fn allow(&self, request: Request) -> Result<(), Refusal>
-        ensures { let s = O.meaning self.now.below in let mine = (R.own self.now.rule).objects s.core.roll s.core.today (request_meant request) in MatchResult result (λ x. mine ≡ None) (λ refusal. (mine ≡ Some (reason_number refusal.reason)) × (refusal.level ≡ 0)) }
+        ensures { let s = O.meaning self.now.below in let mine = (R.own self.now.rule).objects s.core.roll s.core.today
+            (request_meant request) in MatchResult result (λ x. mine ≡ None)
+            (λ refusal. (mine ≡ Some (reason_number refusal.reason)) × (refusal.level ≡ 0)) }
     {
         match self.rule.objection(&self.below, request) {
             Some(reason) => Err(reason.into()),

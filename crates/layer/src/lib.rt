@@ -1,5 +1,5 @@
-//! A layer over any office: what it objects to is a rule of its own, and everything else passes down to the office below and
-//! up from there.
+//! A layer over any office: what it objects to is a rule of its own, and everything else passes down to the office
+//! below and up from there.
 #![tactic(auto)]
 
 mod layer;

@@ -22,5 +22,7 @@ pub trait Rule<O: Office> {
 
     /// The reason why it objects to a request, if it does.
     fn objection(&self, below: &O, request: Request) -> Option<Reason>
-        ensures { option_map reason_number result ≡ (own self.now).objects (O.meaning below.now).core.roll (O.meaning below.now).core.today (request_meant request) };
+        ensures { option_map reason_number result
+            ≡ (own self.now).objects (O.meaning below.now).core.roll (O.meaning below.now).core.today
+            (request_meant request) };
 }

@@ -81,8 +81,8 @@ fn answer_list<S: PlainText, O: Office<Kind = S>>(
     print_roll(rt, office)
 }
 
-// Does a job, and prints it, how many of its calls were made, the refusal that stopped it, what the calls and the hand-in
-// closed, and the roll after them.
+// Does a job, and prints it, how many of its calls were made, the refusal that stopped it, what the calls and the
+// hand-in closed, and the roll after them.
 fn answer_job<S: PlainText, O: Office<Kind = S>>(
     rt: &HostRuntime,
     office: &mut O,

@@ -9,8 +9,8 @@ ghost use Rattle.lending.specs.Roll.{relend};
 use lending::{Lease, MOST_ROWS, NEVER_DUE, join_or_keep};
 use shares::Share;
 
-/// One ledger over rows that are lent to it, for every kind of share. It uses the first 1,024 rows, or all if fewer, and
-/// keeps the roll in the first of them: a count beside the rows, and no Vec, since an office has no heap.
+/// One ledger over rows that are lent to it, for every kind of share. It uses the first 1,024 rows, or all if fewer,
+/// and keeps the roll in the first of them: a count beside the rows, and no Vec, since an office has no heap.
 #[derive(Drop)]
 pub struct Ledger<'a, S> {
     rows: &'a mut [Lease<S>],
@@ -31,7 +31,8 @@ impl<'a, S: Share> Ledger<'a, S> {
     ghost use Rattle.lending.specs.Limits.{within_range};
     ghost use Rattle.lending.specs.Office.{SetUp, new_ledger, issue, with_roll};
     ghost use Rattle.lending.specs.Roll.{find, is_open, lends, change, close, with_holder};
-    ghost use Rattle.lending.specs.Calls.{rows_full, first_lease, after_delegate, after_yield, after_merge, bad_due_day, due_by, unlike};
+    ghost use Rattle.lending.specs.Calls.{rows_full, first_lease, after_delegate, after_yield, after_merge};
+    ghost use Rattle.lending.specs.Calls.{bad_due_day, due_by, unlike};
     ghost use Rattle.ledger.specs.Rows.{At, Looked};
     ghost use Rattle.ledger.specs.Means.{means, rows_of, loan_of, Stands};
 
@@ -136,11 +137,12 @@ impl<'a, S: Share> Ledger<'a, S> {
         self.issued
     }
 
-    // Writes a lease over the live one with its number. (A closure that says what becomes of the lease has a longer contract,
-    // and its proof didn't close.)
+    // Writes a lease over the live one with its number. (A closure that says what becomes of the lease has a longer
+    // contract, and its proof didn't close.)
     fn rewrite(&mut self, lease: Lease<S>)
         requires { ∥ Orderly (change lease.number (λ _. lease) (means self.old).core.roll) self.old.issued ∥₁ }
-        ensures { Stands self.new self.old (with_roll (change lease.number (λ _. lease) (means self.old).core.roll) (means self.old)).core }
+        ensures { Stands self.new self.old (with_roll (change lease.number (λ _. lease) (means self.old).core.roll)
+            (means self.old)).core }
     {
         if let Some(place) = self.place(lease.number) {
             self.rows[place] = lease;
@@ -158,8 +160,8 @@ impl<'a, S: Share> Ledger<'a, S> {
         }
     }
 
-    // What calls do where they are granted. What each asks has been checked before; that a lease is live here is a fact of
-    // lease and ledger together, which no type of the lease could keep while the ledger changes.
+    // What calls do where they are granted. What each asks has been checked before; that a lease is live here is a fact
+    // of lease and ledger together, which no type of the lease could keep while the ledger changes.
 
     // Issues the next number to a first lease, with the whole.
     fn first(&mut self, resource: u16, holder: u16) -> u16
@@ -168,7 +170,8 @@ impl<'a, S: Share> Ledger<'a, S> {
         requires number { self.old.issued < last_number }
         requires row { rows_full (means self.old) ≡ false }
         ensures number { result ≡ self.old.issued + 1 }
-        ensures stands { Stands self.new self.old (issue (first_lease S.kind (self.old.issued + 1) resource holder) (means self.old)).core }
+        ensures stands { Stands self.new self.old (issue (first_lease S.kind (self.old.issued + 1) resource holder)
+            (means self.old)).core }
     {
         self.issue(Lease {
             number: self.issued + 1,
@@ -234,7 +237,8 @@ impl<'a, S: Share> Ledger<'a, S> {
     fn hand_over(&mut self, lease: Lease<S>, holder: u16)
         requires live { find (means self.old).core.roll lease.number ≡ Some lease }
         requires holder { within_range holder ≡ true }
-        ensures { Stands self.new self.old (with_roll (change lease.number (with_holder holder) (means self.old).core.roll) (means self.old)).core }
+        ensures { Stands self.new self.old (with_roll (change lease.number (with_holder holder)
+            (means self.old).core.roll) (means self.old)).core }
     {
         self.rewrite(Lease { holder, ..lease });
     }

@@ -15,7 +15,8 @@ abbrev pub line_written : Result ℕ LineReason → Result ℕ Refusal
 line_written (Ok written) = Ok written
 line_written (Err reason) = Err (line_refusal reason)
 
--- 15 at level 0 where there is no line to be written, else 31 at level 0 where it is longer than the space, else its length
+-- 15 at level 0 where there is no line to be written, else 31 at level 0 where it is longer than the space, else its
+-- length
 abbrev pub line_answer : Option (List ℕ) → List ℕ → Result ℕ Refusal
 line_answer None space = Err (record { number = 15; level = 0 })
 line_answer (Some line) space =

@@ -1,5 +1,6 @@
 -- The lines of a printout. One blank stands between two fields, and each line ends with a newline.
-use Rattle.std.specs.Prelude.{ℕ, ◌≤◌, Bool, if◌then◌else◌, List, ◌++◌, length, slice_get, codes, decimal, Some, None, Option}
+use Rattle.std.specs.Prelude.{ℕ, ◌≤◌, Bool, if◌then◌else◌, List, ◌++◌, length, slice_get, codes, decimal, Some, None}
+use Rattle.std.specs.Prelude.{Option}
 use Rattle.std.specs.Option.{option_map, unwrap_or}
 use Rattle.shares.specs.Kind.{Kind}
 use Rattle.lending.specs.declared.lease.Lease.{Lease}
@@ -25,7 +26,9 @@ refusal_line event number level = codes "! " ++ field event ++ field number ++ l
 
 -- the line of the totals: `=` issued live yielded merged recalled lapsed
 abbrev pub total_line : Totals → List ℕ
-total_line t = codes "= " ++ field t.issued ++ field t.live ++ field t.yielded ++ field t.merged ++ field t.recalled ++ decimal t.lapsed ++ codes "\n"
+total_line t =
+    codes "= " ++ field t.issued ++ field t.live ++ field t.yielded ++ field t.merged ++ field t.recalled
+    ++ decimal t.lapsed ++ codes "\n"
 
 -- `w` if the holder may write, else `r`
 abbrev pub letter : Bool → List ℕ

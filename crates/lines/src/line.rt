@@ -19,8 +19,8 @@ pub const LONGEST_LINE: usize = 219;
 // can take.
 const ROOM: usize = 256;
 
-// A line under way. Its bytes lie in the value itself, since an office has no heap, and no line has more. (Its pieces are
-// added one by one: what `write!` promises, it promises of an Ok alone, and no line may fail that fits its space.)
+// A line under way. Its bytes lie in the value itself, since an office has no heap, and no line has more. (Its pieces
+// are added one by one: what `write!` promises, it promises of an Ok alone, and no line may fail that fits its space.)
 type Line = ArrayVec<u8, ROOM>;
 
 // Adds some bytes to a line.

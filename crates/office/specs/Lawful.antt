@@ -20,4 +20,5 @@ module _ {S : Type 0} where
     pub days : s.core.today ≤ last_day
     pub orderly : ∥ Orderly s.core.roll s.core.issued ∥₁
     -- an objection's level is below the depth, in every pile of up to 255 layers
-    pub levels : s.core.depth ≤ most_layers → (q : Request) (r : Refusal) → s.objections q ≡ Some r → r.level < s.core.depth
+    pub levels : s.core.depth ≤ most_layers → (q : Request) (r : Refusal) → s.objections q ≡ Some r
+        → r.level < s.core.depth

@@ -1,5 +1,5 @@
-//! What every office is, of whichever make: the trait that the ledger and the layers over it implement, a narrower one for
-//! offices whose objections follow from their layers, and an office's live leases one by one.
+//! What every office is, of whichever make: the trait that the ledger and the layers over it implement, a narrower one
+//! for offices whose objections follow from their layers, and an office's live leases one by one.
 #![tactic(auto)]
 
 mod live;

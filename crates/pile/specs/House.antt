@@ -17,7 +17,8 @@ module _ {S : Type 0} where
   new_pile layers rows = pile layers (new_ledger rows)
 
 -- The office `top` is some layers over the office `below`, with its rows.
-pub record PiledOn {P O S : Type 0} (upper : Ghosts P S) (lower : Ghosts O S) (layers : Layers S) (top : P) (below : O) : Type 0 where
+pub record PiledOn {P O S : Type 0} (upper : Ghosts P S) (lower : Ghosts O S) (layers : Layers S) (top : P) (below : O)
+    : Type 0 where
   pub stands : upper.meaning top ≡ pile layers (lower.meaning below)
   pub its_layers : upper.layers top ≡ layers ++ lower.layers below
   pub same_rows : upper.rows top ≡ lower.rows below

@@ -13,7 +13,8 @@ pub fn house_pile<O: Office>(
     term: u16,
     chain: u16,
 ) -> Layer<Layer<Layer<O, Chain>, Term>, Quota>
-    ensures piled { PiledOn ⟦<Layer<Layer<Layer<O, Chain>, Term>, Quota> as Office>⟧ O.Office (house_layers quota term chain) result below }
+    ensures piled { PiledOn ⟦<Layer<Layer<Layer<O, Chain>, Term>, Quota> as Office>⟧ O.Office
+        (house_layers quota term chain) result below }
 {
     Quota::over(Term::over(Chain::over(below, chain), term), quota)
 }

@@ -7,7 +7,8 @@ abbrev pub Begins : List ℕ → List ℕ → Type 0
 Begins before after = (more : List ℕ) × (after ≡ before ++ more)
 
 -- A text was added to some bytes with room for so many, or memory ran out.
-pub record Adds (before : List ℕ) (room : ℕ) (text : List ℕ) {A E : Type 0} (result : Result A E) (after : List ℕ) (room_after : ℕ) : Type 0 where
+pub record Adds (before : List ℕ) (room : ℕ) (text : List ℕ) {A E : Type 0} (result : Result A E) (after : List ℕ)
+    (room_after : ℕ) : Type 0 where
   pub ok : OnOk result (after ≡ before ++ text)
   pub begins : Begins before after
   -- memory runs out only where room was missing

@@ -25,11 +25,13 @@ module _ {O S : Type 0} (K : Kind S) (it : Ghosts O S) (text : S → List ℕ) (
 
   -- The office has become `now`, the list of faults `faults` has become `more_faults`, and the bytes `out` have become
   -- `more_out`.
-  pub record BookPrinted {Y Z E : Type 0} (now : O) (faults more_faults : Vec Fault Y) (out more_out : Vec ℕ Z) (result : Result (Unit {0}) E) : Type 0 where
+  pub record BookPrinted {Y Z E : Type 0} (now : O) (faults more_faults : Vec Fault Y) (out more_out : Vec ℕ Z)
+      (result : Result (Unit {0}) E) : Type 0 where
     -- The printout was added to the bytes,
     pub prints : OnOk result (vec_items more_out ≡ vec_items out ++ printout_bytes book_contents)
     -- the faults of the refused events to the list,
-    pub refused : OnOk result (map refused_event (added faults more_faults) ≡ refused_events K (it.layers was) book (it.meaning was))
+    pub refused : OnOk result (map refused_event (added faults more_faults) ≡ refused_events K (it.layers was) book
+        (it.meaning was))
     -- and the office is as after the whole book.
     pub leaves : OnOk result (it.meaning now ≡ state_after_book)
     -- Whatever happens, bytes and faults that were there before stay.

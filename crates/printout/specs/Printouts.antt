@@ -12,12 +12,12 @@ use Rattle.printout.specs.Contents.{Contents, contents_unopened, contents_opened
 module _ {S : Type 0} (K : Kind S) (layers : Layers S) where
   abbrev pub contents_by : Result Header ℕ → (S → List ℕ) → List ℕ → State S → Contents
   contents_by (Err n) text b s = contents_unopened n
-  contents_by (Ok header) text b s = let p = run K layers b s (event_count b) in contents_opened K text (refusals p.0) (tallies_of p.0) p.1
+  contents_by (Ok header) text b s =
+      let p = run K layers b s (event_count b) in contents_opened K text (refusals p.0) (tallies_of p.0) p.1
 
   -- What the printout shows of a book with these bytes at an office with these layers that stands for s.
   abbrev pub contents : (S → List ℕ) → List ℕ → State S → Contents
   contents text b s = contents_by (opening b) text b s
-
 
   abbrev pub refused_events_by : Result Header ℕ → List ℕ → State S → List RefusedEvent
   refused_events_by (Err n) b s = []

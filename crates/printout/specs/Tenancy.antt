@@ -46,8 +46,8 @@ tenancy_contents b = tenancy_contents_by (opening b) b
 abbrev pub tenancy_printout : List ℕ → List ℕ
 tenancy_printout b = printout_bytes (tenancy_contents b)
 
--- Two books whose printouts are the same bytes show the same, and may be of different kinds. Both can be read, as those of
--- `tenancy` can.
+-- Two books whose printouts are the same bytes show the same, and may be of different kinds. Both can be read, as those
+-- of `tenancy` can.
 abbrev pub OnePrintout : Type 0
 OnePrintout = (a b : List ℕ) → IsReadable (tenancy_contents a) → IsReadable (tenancy_contents b)
     → tenancy_printout a ≡ tenancy_printout b → tenancy_contents a ≡ tenancy_contents b

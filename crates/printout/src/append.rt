@@ -1,5 +1,5 @@
 // Lines of a printout, each added to some bytes.
-ghost use Rattle.std.specs.Prelude.{◌≡◌, ◌<◌, [], length, map, OnOk, vec_capacity};
+ghost use Rattle.std.specs.Prelude.{◌≡◌, ◌<◌, [], length, map, OnOk};
 ghost use Rattle.std.specs.List.{AllByRecursion, concat};
 ghost use Rattle.std.specs.Option.{unwrap_or};
 ghost use Rattle.lines.specs.Lines.{line_at, refusal_line, total_line};
@@ -10,8 +10,8 @@ ghost use Rattle.printout.specs.Contents.{line_of_refusal, refusal_lines, lease_
 
 use calls::Tallies;
 use desk::{count, issued};
-use office::Office;
 use lines::{LONGEST_LINE, Totals, lease_line, refusal_line, total_line};
+use office::Office;
 use replay::Fault;
 use shares::Printed;
 use std::alloc::AllocError;
@@ -55,7 +55,8 @@ pub(crate) fn add_refusals(out: &mut Vec<u8>, faults: &[Fault]) -> Result<(), Al
 pub(crate) fn add_leases<O: Office>(out: &mut Vec<u8>, office: &O) -> Result<(), AllocError>
 where
     O::Kind: Printed,
-    ensures { AddsTo out.old (concat (lease_lines (lease_entries O.Kind.kind O.Kind.text (O.meaning office.now).core.roll))) result out.new }
+    ensures { AddsTo out.old (concat (lease_lines (lease_entries O.Kind.kind O.Kind.text
+        (O.meaning office.now).core.roll))) result out.new }
 {
     for position in 0..count(office) {
         add_lease(out, office, position)?;
@@ -69,7 +70,8 @@ fn add_lease<O: Office>(out: &mut Vec<u8>, office: &O, position: usize) -> Resul
 where
     O::Kind: Printed,
     requires { position < length (O.meaning office.now).core.roll }
-    ensures { AddsTo out.old (unwrap_or (line_at O.Kind.kind O.Kind.text (O.meaning office.now).core.roll position) []) result out.new }
+    ensures { AddsTo out.old (unwrap_or (line_at O.Kind.kind O.Kind.text (O.meaning office.now).core.roll position) [])
+        result out.new }
 {
     let mut space = [0; LONGEST_LINE];
     let length = lease_line(office, position, &mut space).unwrap();

@@ -15,9 +15,9 @@ use replay::{Fault, replay};
 use shares::Printed;
 use std::alloc::AllocError;
 
-/// Replays a book over an office, and adds its printout to some bytes, and the faults of its refused events to a list. The list
-/// gets its memory before the first event: where there is none, the office stays as it was. Later memory runs out for the bytes
-/// alone, and then the replay is done.
+/// Replays a book over an office, and adds its printout to some bytes, and the faults of its refused events to a list.
+/// The list gets its memory before the first event: where there is none, the office stays as it was. Later memory runs
+/// out for the bytes alone, and then the replay is done.
 #[tactic(auto, using(crate::proofs::Backs::one_shown))]
 pub fn print_book<O: Piled>(
     office: &mut O,
@@ -27,7 +27,8 @@ pub fn print_book<O: Piled>(
 ) -> Result<(), AllocError>
 where
     O::Kind: Printed,
-    ensures printed { BookPrinted O.Kind.kind O.Office O.Kind.text book.now office.old office.new faults.old faults.new out.old out.new result }
+    ensures printed { BookPrinted O.Kind.kind O.Office O.Kind.text book.now office.old office.new faults.old faults.new
+        out.old out.new result }
     ensures readable { OnOk result (IsReadable (book_contents O.Kind.kind O.Office O.Kind.text book.now office.old)) }
     ensures read_back { OneContents }
     ensures conserved { BookConserves O.Kind.kind O.Office book.now office.old }
@@ -46,7 +47,8 @@ fn replay_and_print<O: Piled>(
 ) -> Result<(), AllocError>
 where
     O::Kind: Printed,
-    ensures printed { BookPrinted O.Kind.kind O.Office O.Kind.text book.now office.old office.new faults.old faults.new out.old out.new result }
+    ensures printed { BookPrinted O.Kind.kind O.Office O.Kind.text book.now office.old office.new faults.old faults.new
+        out.old out.new result }
     ensures readable { OnOk result (IsReadable (book_contents O.Kind.kind O.Office O.Kind.text book.now office.old)) }
     ensures conserved { BookConserves O.Kind.kind O.Office book.now office.old }
 {
@@ -66,8 +68,10 @@ fn add_lines<O: Office>(
 ) -> Result<(), AllocError>
 where
     O::Kind: Printed,
-    ensures adds { AddsTo out.old (printout_bytes (contents_opened O.Kind.kind O.Kind.text (map refused_event faults.now) tallies (O.meaning office.now))) result out.new }
-    ensures readable { OnOk result (IsReadable (contents_opened O.Kind.kind O.Kind.text (map refused_event faults.now) tallies (O.meaning office.now))) }
+    ensures adds { AddsTo out.old (printout_bytes (contents_opened O.Kind.kind O.Kind.text
+        (map refused_event faults.now) tallies (O.meaning office.now))) result out.new }
+    ensures readable { OnOk result (IsReadable (contents_opened O.Kind.kind O.Kind.text (map refused_event faults.now)
+        tallies (O.meaning office.now))) }
 {
     add_refusals(out, faults)?;
     add_leases(out, office)?;

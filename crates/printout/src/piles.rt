@@ -5,10 +5,11 @@ ghost use Rattle.book.specs.Numbers.{book_reason_number};
 ghost use Rattle.printout.specs.Printouts.{contents};
 ghost use Rattle.printout.specs.Readable.{IsReadable};
 ghost use Rattle.printout.specs.Contents.{contents_unopened, printout_bytes};
-ghost use Rattle.printout.specs.Tenancy.{book_layers, contents_in, tenancy_contents, tenancy_printout, OnePrintout, ConservedIn, TenancyConserved};
+ghost use Rattle.printout.specs.Tenancy.{book_layers, contents_in, tenancy_contents, tenancy_printout, OnePrintout};
+ghost use Rattle.printout.specs.Tenancy.{ConservedIn, TenancyConserved};
 
-use crate::books::print_book;
 use crate::append::add_refusal;
+use crate::books::print_book;
 use book::{Book, BookReason, Header};
 use chain::Chain;
 use kinds::{of_kind, *};
@@ -41,7 +42,8 @@ pub fn tenancy(alloc: Global, book: &[u8]) -> Result<Vec<u8>, AllocError>
 
 // The printout of a book that doesn't open.
 fn print_unopened(alloc: Global, reason: BookReason) -> Result<Vec<u8>, AllocError>
-    ensures prints { IfOk result (λ printout. printout.items ≡ printout_bytes (contents_unopened (book_reason_number reason))) }
+    ensures prints { IfOk result (λ printout. printout.items ≡ printout_bytes (contents_unopened
+        (book_reason_number reason))) }
     ensures readable { OnOk result (IsReadable (contents_unopened (book_reason_number reason))) }
 {
     let mut out = Vec::new(alloc);
@@ -51,7 +53,8 @@ fn print_unopened(alloc: Global, reason: BookReason) -> Result<Vec<u8>, AllocErr
 
 // The printout over a new ledger.
 fn print_new<S: Printed>(alloc: Global, header: Header, book: &[u8]) -> Result<Vec<u8>, AllocError>
-    ensures prints { IfOk result (λ printout. printout.items ≡ printout_bytes (contents_in header S.kind S.text book.now)) }
+    ensures prints { IfOk result (λ printout. printout.items ≡ printout_bytes (contents_in header S.kind S.text
+        book.now)) }
     ensures readable { OnOk result (IsReadable (contents_in header S.kind S.text book.now)) }
     ensures conserved { ConservedIn header S.kind book.now }
 {
@@ -70,8 +73,10 @@ fn print_over<O: Piled + Drop>(
 ) -> Result<Vec<u8>, AllocError>
 where
     O::Kind: Printed,
-    ensures prints { IfOk result (λ printout. printout.items ≡ printout_bytes (contents O.Kind.kind (book_layers header ++ O.layers below) O.Kind.text book.now (pile (book_layers header) (O.meaning below)))) }
-    ensures readable { OnOk result (IsReadable (contents O.Kind.kind (book_layers header ++ O.layers below) O.Kind.text book.now (pile (book_layers header) (O.meaning below)))) }
+    ensures prints { IfOk result (λ printout. printout.items ≡ printout_bytes (contents O.Kind.kind
+        (book_layers header ++ O.layers below) O.Kind.text book.now (pile (book_layers header) (O.meaning below)))) }
+    ensures readable { OnOk result (IsReadable (contents O.Kind.kind (book_layers header ++ O.layers below) O.Kind.text
+        book.now (pile (book_layers header) (O.meaning below)))) }
 {
     let mut office = book_pile(below, header.term, u16::from(header.chain));
     let mut faults = Vec::new(alloc);
@@ -86,7 +91,8 @@ fn book_pile<O: Office>(
     term: u16,
     chain: u16,
 ) -> Layer<Layer<Layer<O, Chain>, Term>, Quota>
-    ensures piled { PiledOn ⟦<Layer<Layer<Layer<O, Chain>, Term>, Quota> as Office>⟧ O.Office (house_layers 64 term chain) result below }
+    ensures piled { PiledOn ⟦<Layer<Layer<Layer<O, Chain>, Term>, Quota> as Office>⟧ O.Office
+        (house_layers 64 term chain) result below }
 {
     house_pile(below, QUOTA, term, chain)
 }

@@ -18,7 +18,9 @@ module _ {S : Type 0} where
   Steps K (no_call n) s x r y t = (y.done ≡ x.done + 1) × Comes K (no_call n) (x.done + 1) s x.tallies r y.tallies t
   Steps K (a_call c) s x r y t = (y.done ≡ x.done + 1) × Comes K (a_call c) (x.done + 1) s x.tallies r y.tallies t
 
--- Finishing session x, by what opening the book says: it is handed out ended with the same counts, or handed back as it was.
+-- Finishing session x, by what opening the book says: it is handed out ended with the same counts, or handed back as it
+-- was.
 abbrev pub Finishes : Result Header ℕ → Reading → Result Finished (Reading × Fault) → Type 0
-Finishes opened x (Ok finished) = (finishing opened x.done ≡ None) × (finished.closed ≡ x.tallies) × (finished.ended ≡ true)
+Finishes opened x (Ok finished) =
+    (finishing opened x.done ≡ None) × (finished.closed ≡ x.tallies) × (finished.ended ≡ true)
 Finishes opened x (Err back) = (finishing opened x.done ≡ Some (refused_event back.1)) × (back.0 ≡ x)

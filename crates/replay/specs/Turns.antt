@@ -30,18 +30,21 @@ tallies_kept before (Err fault) = before
 
 module _ {S : Type 0} where
   -- An event asked for a call of an office that stood for s, which then stood for t.
-  pub record CallOfEvent (K : Kind S) (c : Call) (event : ℕ) (s : State S) (before : Tallies) {A : Type 0} (r : Result A Fault) (after : Tallies) (t : State S) : Type 0 where
+  pub record CallOfEvent (K : Kind S) (c : Call) (event : ℕ) (s : State S) (before : Tallies) {A : Type 0}
+      (r : Result A Fault) (after : Tallies) (t : State S) : Type 0 where
     pub answer : Answer S
     pub does : Does K s c answer t
     -- a refusal names the event, and has the office's number and level
     pub tells : refused_event_in r ≡ refused_event_at event answer
     pub counts : after ≡ tallies_with before c answer
-    -- The lending promise: whatever list of calls led to s from an office that was set up empty, it holds of that list with
-    -- this call.
+    -- The lending promise: whatever list of calls led to s from an office that was set up empty, it holds of that list
+    -- with this call.
     pub conserved : CallConserves K s c answer t
 
   -- What comes next, at an office that stands for s, leaves t, the tallies and the answer r, which names the event.
   abbrev pub Comes : Kind S → Next → ℕ → State S → Tallies → {A : Type 0} → Result A Fault → Tallies → State S → Type 0
-  Comes K (nothing n) event s before r after t = (refused_event_in r ≡ Some (without_level event n)) × (after ≡ before) × (t ≡ s)
-  Comes K (no_call n) event s before r after t = (refused_event_in r ≡ Some (without_level event n)) × (after ≡ before) × (t ≡ s)
+  Comes K (nothing n) event s before r after t =
+      (refused_event_in r ≡ Some (without_level event n)) × (after ≡ before) × (t ≡ s)
+  Comes K (no_call n) event s before r after t =
+      (refused_event_in r ≡ Some (without_level event n)) × (after ≡ before) × (t ≡ s)
   Comes K (a_call c) event s before r after t = CallOfEvent K c event s before r after t

@@ -1,6 +1,7 @@
--- A whole replay: what is read off what the events of a book came to; and what they come to, worked out one by one, at an office
--- whose objections follow from its layers.
-use Rattle.std.specs.Prelude.{◌≡◌, ℕ, zero, suc, ◌+◌, List, [], ◌∷◌, ◌++◌, length, map, Option, Some, None, Result, Ok, Err}
+-- A whole replay: what is read off what the events of a book came to; and what they come to, worked out one by one, at
+-- an office whose objections follow from its layers.
+use Rattle.std.specs.Prelude.{◌≡◌, ℕ, zero, suc, ◌+◌, List, [], ◌∷◌, ◌++◌, length, map, Option, Some, None, Result, Ok}
+use Rattle.std.specs.Prelude.{Err}
 use Rattle.shares.specs.Kind.{Kind}
 use Rattle.lending.specs.Office.{State, SetUp}
 use Rattle.lending.specs.Layers.{Layers}
@@ -61,8 +62,8 @@ module _ {S : Type 0} (K : Kind S) (layers : Layers S) where
   turn_on (no_call n) p = (stepped_over n ∷ p.0, p.1)
   turn_on (a_call c) p = let played = play K layers p.1 (c ∷ []) in (map call_made played.0 ++ p.0, played.1)
 
-  -- What the first n events of a book with these bytes come to at an office with these layers that stands for s, the last one
-  -- first, and the state that they lead to.
+  -- What the first n events of a book with these bytes come to at an office with these layers that stands for s, the
+  -- last one first, and the state that they lead to.
   abbrev pub run : List ℕ → State S → ℕ → List (Turn S) × State S
   run b s zero = ([], s)
   run b s (suc n) = turn_on (next b n) (run b s n)
@@ -74,11 +75,13 @@ module _ {S : Type 0} (K : Kind S) (layers : Layers S) where
     -- the promise holds of them, where the office was set up empty,
     pub from_empty : SetUp s → Conserved K (history (run b s n).0) (run b s n).1
     -- and of every list of calls to such an office that these calls follow.
-    pub conserved : (start : State S) → SetUp start → (earlier : List (Moment S)) → Leads K start earlier s → Conserved K (history (run b s n).0 ++ earlier) (run b s n).1
+    pub conserved : (start : State S) → SetUp start → (earlier : List (Moment S)) → Leads K start earlier s
+        → Conserved K (history (run b s n).0 ++ earlier) (run b s n).1
 
-  -- The first n events of a book of these bytes were replayed over an office that stood for s, which then stands for t, with
-  -- these faults and these tallies.
-  pub record Replay (b : List ℕ) (s : State S) (n : ℕ) (faults : List Fault) (tallies : Tallies) (t : State S) : Type 0 where
+  -- The first n events of a book of these bytes were replayed over an office that stood for s, which then stands for t,
+  -- with these faults and these tallies.
+  pub record Replay (b : List ℕ) (s : State S) (n : ℕ) (faults : List Fault) (tallies : Tallies) (t : State S)
+      : Type 0 where
     -- every event came to something
     pub every : length (run b s n).0 ≡ n
     pub leaves : t ≡ (run b s n).1

@@ -12,13 +12,14 @@ use crate::fault::Fault;
 use book::{Book, BookReason, Code, Event, HEADER, RECORD};
 use calls::Call;
 
-// The event of a book with so many before it; its record is that very part of the book. Refused as opening, or because no event
-// is left.
+// The event of a book with so many before it; its record is that very part of the book. Refused as opening, or because
+// no event is left.
 #[tactic(auto, unfolding(crate::specs::Events::event_at))]
 pub(crate) fn next_event(book: &[u8], done: u16) -> Result<Event<'_>, Fault>
     ensures is { event_or_refused result ≡ refused_in_place (event_at book.now done) }
     ensures few { OnOk result (done < MOST_EVENTS) }
-    ensures place { IfOk result (λ event. event.bytes.ref_ptr ≡ further book.entry.ref_ptr (HEADER + event_count book.now + RECORD * done)) }
+    ensures place { IfOk result (λ event. event.bytes.ref_ptr ≡ further book.entry.ref_ptr
+        (HEADER + event_count book.now + RECORD * done)) }
 {
     let book = Book::open(book)?;
     let event = book

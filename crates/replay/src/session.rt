@@ -40,13 +40,15 @@ impl Reading {
         }
     }
 
-    /// Does the next event of a book. Where no event is reached, the session and the office stay as they were; a refused event
-    /// is done with, and leaves the office as it was.
+    /// Does the next event of a book. Where no event is reached, the session and the office stay as they were; a
+    /// refused event is done with, and leaves the office as it was.
     #[tactic(auto, using(crate::proofs::Stepping::refused_step))]
     pub fn step<O: Office>(&mut self, office: &mut O, book: &[u8]) -> Result<(), Fault>
-        ensures steps { Steps O.Kind.kind (next book.now (events_done self.old)) (O.meaning office.old) self.old result self.new (O.meaning office.new) }
+        ensures steps { Steps O.Kind.kind (next book.now (events_done self.old)) (O.meaning office.old) self.old result
+            self.new (O.meaning office.new) }
         ensures same { OnErr result (office.new ≡ office.old) }
-        ensures idle { quiet O.Kind.kind (O.meaning office.old) (next book.now (events_done self.old)) ≡ true → office.new ≡ office.old }
+        ensures idle { quiet O.Kind.kind (O.meaning office.old) (next book.now (events_done self.old)) ≡ true
+            → office.new ≡ office.old }
         ensures keeps { Keeps O.Office office.old office.new }
         ensures always { LendingConserved O.Kind.kind }
     {
@@ -86,10 +88,12 @@ impl Reading {
 // Makes the call that an event asks for, and answers the tallies with what it closed. A fault names no event.
 fn make_event<O: Office>(office: &mut O, event: Event, tallies: Tallies) -> Result<Tallies, Fault>
     requires { all_closed tallies < 2 ^ 63 }
-    ensures comes { Comes O.Kind.kind (asks (code_and_operands event.entry.code event.entry.bytes.now)) 0 (O.meaning office.old) tallies result (tallies_kept tallies result) (O.meaning office.new) }
+    ensures comes { Comes O.Kind.kind (asks (code_and_operands event.entry.code event.entry.bytes.now)) 0
+        (O.meaning office.old) tallies result (tallies_kept tallies result) (O.meaning office.new) }
     ensures few { all_closed (tallies_kept tallies result) ≤ all_closed tallies + most_closed }
     ensures same { OnErr result (office.new ≡ office.old) }
-    ensures idle { quiet O.Kind.kind (O.meaning office.old) (asks (code_and_operands event.entry.code event.entry.bytes.now)) ≡ true → office.new ≡ office.old }
+    ensures idle { quiet O.Kind.kind (O.meaning office.old)
+        (asks (code_and_operands event.entry.code event.entry.bytes.now)) ≡ true → office.new ≡ office.old }
     ensures keeps { Keeps O.Office office.old office.new }
 {
     let (code, operands) = event.code_and_operands()?;
@@ -117,8 +121,8 @@ impl Finished {
         self.closed
     }
 
-    /// A finished session takes no step: begin a new replay. This is there to be refused by the check at every call, which asks that
-    /// the session has not ended.
+    /// A finished session takes no step: begin a new replay. This is there to be refused by the check at every call,
+    /// which asks that the session has not ended.
     pub fn step<O: Office>(&self, _office: &mut O, _book: &[u8]) -> Result<(), Fault>
         requires reading { has_ended self.now ≡ false }
     {

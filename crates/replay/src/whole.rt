@@ -14,9 +14,9 @@ use lending::lending_is_conserved;
 use office::Office;
 use std::alloc::AllocError;
 
-/// Replays a book over an office: each of its events is stepped once, in their order, and the session is finished. The faults of
-/// the refused events are added to a list that the caller owns. Refused only as opening is; then office and list stay as they
-/// were. So they do where memory runs out: what the list needs is taken before the first event.
+/// Replays a book over an office: each of its events is stepped once, in their order, and the session is finished. The
+/// faults of the refused events are added to a list that the caller owns. Refused only as opening is; then office and
+/// list stay as they were. So they do where memory runs out: what the list needs is taken before the first event.
 pub fn replay<O: Office>(
     office: &mut O,
     book: &[u8],
@@ -33,8 +33,8 @@ pub fn replay<O: Office>(
     read_book(office, book, faults)
 }
 
-// The book read. It is by itself so that a wrong body is refused where it stands, and not in the proof of what follows from its
-// clauses.
+// The book read. (A function of its own, so that a wrong body is refused in its own line, and not in the proof of what
+// follows from it.)
 fn read_book<O: Office>(
     office: &mut O,
     book: &[u8],
@@ -65,8 +65,8 @@ fn count_events(book: &[u8]) -> Result<u16, Fault>
     Ok(book.header.events)
 }
 
-// Steps every event of a book that opens and has so many. The loop is by itself so that a wrong call of it is refused where it
-// stands, and not in the proof of the loop.
+// Steps every event of a book that opens and has so many. (A function of its own, so that a wrong call of it is refused
+// in the line that calls it, and not in the proof of the loop.)
 fn read_events<O: Office>(
     office: &mut O,
     book: &[u8],
@@ -76,7 +76,8 @@ fn read_events<O: Office>(
     requires opens { Opens (opening book.now) events }
     requires counted { events ≡ event_count book.now }
     requires room { vec_len faults.old + events ≤ vec_capacity faults.old }
-    ensures replays { BookReplayed O.Kind.kind O.Office book.now office.old (added faults.old faults.new) (closed_so_far result) office.new }
+    ensures replays { BookReplayed O.Kind.kind O.Office book.now office.old (added faults.old faults.new)
+        (closed_so_far result) office.new }
     ensures kept { take (vec_len faults.old) faults.new.items ≡ faults.old.items }
     ensures done { events_done result ≡ events }
     ensures idle { BookQuiet O.Kind.kind O.Office book.now office.old → office.new ≡ office.old }

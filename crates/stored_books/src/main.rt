@@ -1,5 +1,5 @@
-//! Prints the printouts of stored books. On standard input they stand one after another, each after its length: a 16-bit
-//! number, the lower byte first.
+//! Prints the printouts of stored books. On standard input they stand one after another, each after its length: a
+//! 16-bit number, the lower byte first.
 #![tactic(auto)]
 
 use printout::tenancy;
@@ -11,8 +11,8 @@ fn main(rt: HostRuntime) -> anyhow::Result<()> {
     print_all(&rt, &stored)
 }
 
-// Prints the number of each book, from 1, and then its printout. Each book takes two bytes or more, so there are no more books
-// than bytes.
+// Prints the number of each book, from 1, and then its printout. Each book takes two bytes or more, so there are no
+// more books than bytes.
 fn print_all(rt: &HostRuntime, stored: &[u8]) -> anyhow::Result<()> {
     let mut left = stored;
     for number in 1..=stored.len() {

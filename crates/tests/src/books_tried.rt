@@ -67,6 +67,12 @@ fn an_unknown_code_comes_before_an_unused_operand(rt: HostRuntime) {
     };
     assert_eq!(rt; event(0).code_and_operands(), Err(BookReason::UnknownCode));
     assert_eq!(rt; event(8).code_and_operands(), Err(BookReason::UnknownCode));
-    assert_eq!(rt; event(1).code_and_operands(), Err(BookReason::UnusedOperand));
-    assert_eq!(rt; event(2).code_and_operands(), Ok((Code::Delegate, [1, 2, 256])));
+    assert_eq!(rt;
+        event(1).code_and_operands(),
+        Err(BookReason::UnusedOperand)
+    );
+    assert_eq!(rt;
+        event(2).code_and_operands(),
+        Ok((Code::Delegate, [1, 2, 256]))
+    );
 }

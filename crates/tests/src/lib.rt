@@ -1,5 +1,5 @@
-//! The worked examples run as tests of the code, and tests that cross crates: of shares, offices, lines, books and calls. They
-//! are a crate of their own, since a crate's tests prove the whole crate anew.
+//! The worked examples run as tests of the code, and tests that cross crates: of shares, offices, lines, books and
+//! calls. They are a crate of their own, since a crate's tests prove the whole crate anew.
 #![tactic(auto)]
 
 #[cfg(test)]

@@ -1,8 +1,8 @@
 use crate::free_row;
 use desk::{delegate, open};
 use ledger::Ledger;
-use office::Office;
 use lines::{LineReason, Totals, lease_line, refusal_line, total_line};
+use office::Office;
 use shares::Printed;
 use std::process::Abort;
 

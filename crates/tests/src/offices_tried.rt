@@ -123,8 +123,9 @@ fn merged_leases_come_back_whole(rt: HostRuntime) {
     merge_and_give_back(&rt, Ledger::new(&mut rows));
 }
 
-// The editor, holder 1, lends two shares to holder 2, who lends on from the second, and one to transcriber 4. The two are
-// merged, and the lease that has both is recalled. The editor may not write before the transcriber's share is back too.
+// The editor, holder 1, lends two shares to holder 2, who lends on from the second, and one to transcriber 4. The two
+// are merged, and the lease that has both is recalled. The editor may not write before the transcriber's share is back
+// too.
 fn merge_and_recall<S: Printed, O: Office<Kind = S> + Drop>(rt: &impl Abort, mut office: O) {
     let lent = [
         open(7, 1),

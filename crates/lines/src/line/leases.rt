@@ -23,7 +23,8 @@ pub fn lease_line<O: Office>(
 ) -> Result<usize, LineReason>
 where
     O::Kind: Printed,
-    ensures writes { WritesLine (line_at O.Kind.kind O.Kind.text (O.meaning office.now).core.roll position) space.old space.new result }
+    ensures writes { WritesLine (line_at O.Kind.kind O.Kind.text (O.meaning office.now).core.roll position) space.old
+        space.new result }
     ensures short { LinesAreShort O.Kind.kind O.Kind.text (O.meaning office.now) }
     ensures letters { LettersTell O.Kind.kind (O.meaning office.now) }
     ensures always { LendingConserved O.Kind.kind }

@@ -8,7 +8,8 @@ ghost use Rattle.lines.specs.Lines.{refusal_line, level_text};
 use super::{Line, put, write_field, write_number};
 use crate::reason::LineReason;
 
-/// Writes the line of a refused event, by its place in the book, the number of the refusal, and its level if it has one.
+/// Writes the line of a refused event, by its place in the book, the number of the refusal, and its level if it has
+/// one.
 pub fn refusal_line(
     event: usize,
     number: u8,
