@@ -68,8 +68,8 @@ pub fn make_all<O: Office>(office: &mut O, calls: &[Call]) -> Tallies
     make_each(office, calls)
 }
 
-// The calls made from the first on. (A function of its own, so that a wrong call of it is refused in the line that calls
-// it, and not in the proof of the loop.)
+// The calls made from the first on. (A function of its own, so that a wrong call of it is refused in the line that
+// calls it, and not in the proof of the loop.)
 fn make_each<O: Office>(office: &mut O, calls: &[Call]) -> Tallies
     ensures made { ListMade O.Kind.kind O.Office office.old calls.now result office.new }
     ensures played { ListPlayed O.Kind.kind O.Office office.old calls.now result office.new }

@@ -54,7 +54,8 @@ pub fn lease_at<O: Office>(office: &O, position: usize) -> Result<Lease<O::Kind>
 /// The live lease with a number.
 pub fn lease<O: Office>(office: &O, lease: u16) -> Result<Lease<O::Kind>, Refusal>
     ensures tells { Tells O.Kind.kind O.Office (ask_lease lease) (lease_or_refused result) office.now }
-    ensures conserved { Conserves O.Kind.kind O.Office (ask_lease lease) (lease_or_refused result) office.now office.now }
+    ensures conserved { Conserves O.Kind.kind O.Office (ask_lease lease) (lease_or_refused result)
+        office.now office.now }
     ensures always { LendingConserved O.Kind.kind }
 {
     lending_is_conserved::<O::Kind>();

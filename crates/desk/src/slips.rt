@@ -45,7 +45,8 @@ impl Slip {
 
     /// Recalls the lease if it is live, and answers how many leases that closed, else 0.
     pub fn hand_in<O: Office>(mut self, office: &mut O) -> usize
-        ensures performs { Performs O.Kind.kind O.Office (hand_in (lease_of self)) (number result) office.old office.new }
+        ensures performs { Performs O.Kind.kind O.Office (hand_in (lease_of self)) (number result)
+            office.old office.new }
         ensures takes_back { TakesBack O.Kind.kind (O.meaning office.old) (lease_of self) (O.meaning office.new) }
         ensures idle { idle (perform O.Kind.kind (O.meaning office.old) (hand_in (lease_of self))) ≡ true
             → office.new ≡ office.old }

@@ -55,7 +55,8 @@ pub trait Office {
 
     /// The live lease with a number.
     fn lease(&self, lease: u16) -> Result<Lease<Self::Kind>, Refusal>
-        ensures { Does Self.Kind.kind (meaning self.now) (ask_lease lease) (lease_or_refused result) (meaning self.now) };
+        ensures { Does Self.Kind.kind (meaning self.now) (ask_lease lease) (lease_or_refused result)
+            (meaning self.now) };
 
     /// Opens a resource: the holder gets its first lease, with the whole. Answers its number.
     fn open(&mut self, resource: u16, holder: u16) -> Result<u16, Refusal>

@@ -24,7 +24,8 @@ pub fn replay<O: Office>(
 ) -> Result<Result<Finished, Fault>, AllocError>
     ensures reads { BookRead O.Kind.kind O.Office book.now office.old office.new faults.old faults.new result }
     ensures runs { EachFollows O.Office → IfOk result (λ outcome. IfOk outcome (λ finished.
-        BookRun O.Kind.kind O.Office book.now office.old (added faults.old faults.new) (closed_in_all finished) office.new)) }
+        BookRun O.Kind.kind O.Office book.now office.old (added faults.old faults.new)
+        (closed_in_all finished) office.new)) }
     ensures once { EachFollows O.Office → OneBookReplay O.Kind.kind O.Office book.now office.old }
     ensures conserved { BookConserves O.Kind.kind O.Office book.now office.old }
     ensures always { LendingConserved O.Kind.kind }
