@@ -4,6 +4,7 @@ use Rattle.book.specs.declared.reason.BookReason.{BookReason}
 use Rattle.book.specs.declared.reason.BookReason.TheVariants.{TooShort, TooManyEvents, NoSuchKind, NotZero, WrongLength}
 use Rattle.book.specs.declared.reason.BookReason.TheVariants.{NoEventLeft, UnknownCode, UnusedOperand, EventsLeft}
 
+-- the number by which everybody knows a reason
 abbrev pub book_reason_number : BookReason → ℕ
 book_reason_number TooShort = 41
 book_reason_number TooManyEvents = 42

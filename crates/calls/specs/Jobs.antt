@@ -6,7 +6,7 @@ use Rattle.lending.specs.Office.{Refusal, State}
 use Rattle.lending.specs.Layers.{Layers}
 use Rattle.lending.specs.Outcome as office
 use Rattle.lending.specs.Outcome.Call.{hand_in}
-use Rattle.lending.specs.Outcome.Answer.{done, number, lease, share, refused}
+use Rattle.lending.specs.Outcome.Answer.{number, refused}
 use Rattle.lending.specs.Perform.{perform, Does}
 use Rattle.lending.specs.Play.{outcome_answer, state_after}
 use Rattle.lending.specs.History.{Moment}

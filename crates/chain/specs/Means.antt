@@ -14,7 +14,8 @@ lender_of_lease (Some l) = if l.lender == 0 then None else Some l.lender
 -- 23: the lender is live and has so many leases above it or more
 abbrev pub chain_objects : {S : Type 0} → ℕ → List (Lease S) → ℕ → Request → Option ℕ
 chain_objects limit roll today (opening resource holder) = None
-chain_objects limit roll today (delegating lender holder due) = number_if (live roll lender && nat_le limit (height roll lender)) 23
+chain_objects limit roll today (delegating lender holder due) =
+    number_if (live roll lender && nat_le limit (height roll lender)) 23
 chain_objects limit roll today (assigning lease holder) = None
 
 -- the layer with this rule

@@ -8,6 +8,7 @@ use Rattle.counting.specs.declared.permission.Permission.TheVariants.{Empty, Sou
 use Rattle.counting.specs.declared.counting.Counting.{Counting}
 use Rattle.counting.specs.Limits.{within}
 
+-- the share with a permission, by the test for the limits; the empty share beyond them
 abbrev pub of_permission_by : (p : Permission) (b : Bool) → within p ≡ b → Counting
 of_permission_by p true e = record { held = p; limited = e }
 of_permission_by p false e = record { held = Empty; limited = refl }
@@ -36,6 +37,7 @@ less Empty = None
 less (Source n) = Some (Source (n + 1))
 less (Readers k) = Some (Readers (k - 1))
 
+-- the join of two shares
 abbrev pub join : Counting → Counting → Option Counting
 join a b = bind (plus a.held b.held) counting_if_within
 
@@ -43,6 +45,7 @@ join a b = bind (plus a.held b.held) counting_if_within
 abbrev pub halve : Counting → Option (Counting × Counting)
 halve a = bind (bind (less a.held) counting_if_within) (λ kept. Some (kept, counting_of (Readers 1)))
 
+-- whether two permissions are the same
 abbrev pub alike : Permission → Permission → Bool
 alike Empty Empty = true
 alike Empty (Source m) = false
@@ -54,6 +57,7 @@ alike (Readers j) Empty = false
 alike (Readers j) (Source m) = false
 alike (Readers j) (Readers k) = j == k
 
+-- counting shares as a kind of share
 abbrev pub counting_kind : Kind Counting
 counting_kind = record {
   empty = counting_of Empty;

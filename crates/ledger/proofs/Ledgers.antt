@@ -21,7 +21,7 @@ module _ {S : Type 0} where
 
   -- a ledger whose rows became another list of as many
   pub stands : (l was : Ledger S) (roll : List (Lease S)) → take l.count l.rows.now ≡ roll → length l.rows.now ≡ length was.rows.now → unused l.rows.now ≡ unused was.rows.now → loan_of l ≡ loan_of was → Stands l was (record { roll = roll; issued = l.issued; today = l.today; capacity = min most_rows (length was.rows.now); depth = 0 })
-  stands l was roll holds len rest lent = record { core = same_core (take l.count l.rows.now) roll l.issued l.today (min most_rows (length l.rows.now)) (min most_rows (length was.rows.now)) holds (ap (min most_rows) len); rest = rest; lent = lent }
+  stands l was roll holds len rest loan = record { core = same_core (take l.count l.rows.now) roll l.issued l.today (min most_rows (length l.rows.now)) (min most_rows (length was.rows.now)) holds (ap (min most_rows) len); rest = rest; loan = loan }
 
   module _ (l : Ledger S) where
     pub rises : Rising 0 (take l.count l.rows.now)

@@ -24,7 +24,7 @@ module _ {S : Type 0} where
 
   -- one change after another
   pub after : {l₂ l₁ l₀ : Ledger S} {k : Core S} (h : Core S → Core S) → Stands l₂ l₁ (h (means l₁).core) → Stands l₁ l₀ k → Stands l₂ l₀ (h k)
-  after h a b = record { core = a.core ∙ ap h b.core; rest = a.rest ∙ b.rest; lent = a.lent ∙ b.lent }
+  after h a b = record { core = a.core ∙ ap h b.core; rest = a.rest ∙ b.rest; loan = a.loan ∙ b.loan }
 
   module _ (l : Ledger S) where
     -- a lease that is found is written over, and keeps all but its holder or share
@@ -40,12 +40,12 @@ module _ {S : Type 0} where
         record {
           core = s.core ∙ ap (λ (r : List (Lease S)). over (λ o. r) (means l).core) (ap (λ m. change m (λ o. y) roll) named ∙ ap (λ (z : Lease S). change n (λ o. z) roll) is ∙ change_found n 0 roll x f (rises l) e);
           rest = s.rest;
-          lent = s.lent;
+          loan = s.loan;
         }
 
   -- where the roll stays, a change that leaves it as it is
   pub same_over : (l : Ledger S) (h : List (Lease S) → List (Lease S)) → take l.count l.rows.now ≡ h (take l.count l.rows.now) → Stands l l (over h (means l).core)
-  same_over l h e = record { core = ap (λ (r : List (Lease S)). over (λ o. r) (means l).core) e; rest = refl; lent = refl }
+  same_over l h e = record { core = ap (λ (r : List (Lease S)). over (λ o. r) (means l).core) e; rest = refl; loan = refl }
 
   -- another lease is still found where one was closed
   pub still_found : (l now : Ledger S) (x : Lease S) (n : ℕ) → find (take l.count l.rows.now) x.number ≡ Some x → (x.number ≡ n → ⊥) → Stands now l (over (close n) (means l).core) → find (take now.count now.rows.now) x.number ≡ Some x

@@ -32,4 +32,4 @@ module _ {S : Type 0} where
   pub record Stands (l was : Ledger S) (c : Core S) : Type 0 where
     pub core : (means l).core ≡ c
     pub rest : unused (rows_of l) ≡ unused (rows_of was)
-    pub lent : loan_of l ≡ loan_of was
+    pub loan : loan_of l ≡ loan_of was

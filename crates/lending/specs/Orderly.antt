@@ -9,6 +9,7 @@ use Rattle.lending.specs.Roll.{Rising}
 abbrev pub Ranged : {S : Type 0} → Lease S → Type 0
 Ranged l = (within_range l.resource ≡ true) × (within_range l.holder ≡ true) × (l.due ≤ never)
 
+-- What holds of every roll of an office that issued so many numbers:
 pub record Orderly {S : Type 0} (roll : List (Lease S)) (issued : ℕ) : Type 0 where
   pub rising : Rising 0 roll
   -- a live lease has a number that was issued

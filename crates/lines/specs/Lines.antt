@@ -39,8 +39,8 @@ letter may_write = if may_write then codes "w" else codes "r"
 
 module _ {S : Type 0} where
   -- the holder of a lease may write its resource: its standing there is the whole
-  abbrev pub writes : Kind S → List (Lease S) → Lease S → Bool
-  writes K roll l = K.same (unwrap_or (standing_of K roll l.resource l.holder) K.empty) K.whole
+  abbrev pub holder_may_write : Kind S → List (Lease S) → Lease S → Bool
+  holder_may_write K roll l = K.same (unwrap_or (standing_of K roll l.resource l.holder) K.empty) K.whole
 
   -- a lease by the text of shares and by whether its holder may write
   abbrev pub lease_text : (S → List ℕ) → Lease S → Bool → List ℕ
@@ -50,7 +50,7 @@ module _ {S : Type 0} where
 
   -- the line of a lease of the roll: number resource holder lender due, `w` or `r`, and the text of its share
   abbrev pub lease_line : Kind S → (S → List ℕ) → List (Lease S) → Lease S → List ℕ
-  lease_line K text roll l = lease_text text l (writes K roll l)
+  lease_line K text roll l = lease_text text l (holder_may_write K roll l)
 
   -- the line of the lease at a position of the roll, if there is one
   abbrev pub line_at : Kind S → (S → List ℕ) → List (Lease S) → ℕ → Option (List ℕ)
@@ -62,4 +62,4 @@ module _ {S : Type 0} where
 
   -- The line of each live lease has a `w` exactly if its holder may write.
   abbrev pub LettersTell : Kind S → State S → Type 0
-  LettersTell K s = (l : Lease S) → Live s l → MayWrite K s l.resource l.holder (writes K s.core.roll l)
+  LettersTell K s = (l : Lease S) → Live s l → MayWrite K s l.resource l.holder (holder_may_write K s.core.roll l)

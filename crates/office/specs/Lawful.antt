@@ -10,6 +10,7 @@ module _ {S : Type 0} where
   abbrev pub unused : List (Lease S) → List (Lease S)
   unused rows = drop most_rows rows
 
+  -- What holds of an office that stands for s, with these rows:
   pub record Lawful (s : State S) (rows : List (Lease S)) : Type 0 where
     -- its capacity is the first 1,024 rows, or all if fewer,
     pub capacity : s.core.capacity ≡ min most_rows (length rows)

@@ -23,8 +23,8 @@ pub fn leases<O: Office>(office: &O) -> LiveLeases<'_, O>
     }
 }
 
-// The lease at a position of the roll, which is the first of those from there on, if there is one. By itself so that a
-// wrong `next` is refused where it stands, and not in the proof.
+// The lease at a position of the roll, which is the first of those from there on, if there is one. (A function of
+// its own, so that a wrong one is refused in its own line, and not in the proof of `next`.)
 fn first_from<O: Office>(office: &O, position: usize) -> Option<Lease<O::Kind>>
     ensures comes { let roll = (O.meaning office.now).core.roll in MatchOption result (drop position roll ≡ [])
         (λ lease. drop position roll ≡ lease ∷ drop (position + 1) roll) }

@@ -1,6 +1,6 @@
 -- The layers of the house's offices.
 use Rattle.std.specs.Prelude.{◌≡◌, ℕ, [], ◌∷◌, ◌++◌}
-use Rattle.lending.specs.Office.{State, new_ledger}
+use Rattle.lending.specs.Office.{State, SetUp, new_ledger}
 use Rattle.lending.specs.Layers.{Layers, pile}
 use Rattle.office.specs.declared.office.Office.{Ghosts}
 use Rattle.quota.specs.Means.{quota_rule}
@@ -20,6 +20,7 @@ module _ {S : Type 0} where
 pub record PiledOn {P O S : Type 0} (upper : Ghosts P S) (lower : Ghosts O S) (layers : Layers S) (top : P) (below : O)
     : Type 0 where
   pub stands : upper.meaning top ≡ pile layers (lower.meaning below)
+  pub set_up : SetUp (lower.meaning below) → SetUp (upper.meaning top)
   pub its_layers : upper.layers top ≡ layers ++ lower.layers below
   pub same_rows : upper.rows top ≡ lower.rows below
   pub same_loan : upper.loan top ≡ lower.loan below

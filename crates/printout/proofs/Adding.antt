@@ -95,9 +95,6 @@ module _ {S : Type 0} (K : Kind S) (text : S → List ℕ) (roll : List (Lease S
       let x = drop_at roll i l in
       ap (λ (o : Option (Lease S)). unwrap_or (option_map (lease_line K text roll) o) [] ++ lines_from (i + 1)) x.1 ∙ ap (λ (ls : List (Lease S)). lease_bytes (map (lease_entry K text roll) ls)) (sym x.2)
 
-  pub no_lines : (i : ℕ) → length roll ≤ i → lines_from i ≡ []
-  no_lines i l = ap (λ (ls : List (Lease S)). lease_bytes (map (lease_entry K text roll) ls)) (drop_none roll i l)
-
   -- what a call for that line left at the front of its space
   pub placed_there : (i : ℕ) → i < length roll → ((l : Lease S) → Memᴰ l roll → length (lease_line K text roll l) ≤ longest_line) → (space after : List ℕ) (r : Result ℕ LineReason) (n : ℕ) → length space ≡ longest_line → line_written r ≡ line_answer (line_at K text roll i) space → after ≡ space_after (line_at K text roll i) space → r ≡ Ok n → take n after ≡ line_there i
   placed_there i l short space after r n size a b c =

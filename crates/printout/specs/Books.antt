@@ -13,6 +13,7 @@ use Rattle.replay.specs.Books.{added, BookQuiet}
 use Rattle.printout.specs.Adds.{Begins}
 use Rattle.printout.specs.Contents.{Contents, printout_bytes}
 use Rattle.printout.specs.Printouts.{contents, refused_events, state_left}
+use Rattle.printout.specs.Readable.{IsReadable}
 
 module _ {O S : Type 0} (K : Kind S) (it : Ghosts O S) (text : S → List ℕ) (book : List ℕ) (was : O) where
   -- what its printout shows
@@ -29,6 +30,8 @@ module _ {O S : Type 0} (K : Kind S) (it : Ghosts O S) (text : S → List ℕ) (
       (result : Result (Unit {0}) E) : Type 0 where
     -- The printout was added to the bytes,
     pub prints : OnOk result (vec_items more_out ≡ vec_items out ++ printout_bytes book_contents)
+    -- which can be read back,
+    pub readable : OnOk result (IsReadable book_contents)
     -- the faults of the refused events to the list,
     pub refused : OnOk result (map refused_event (added faults more_faults) ≡ refused_events K (it.layers was) book
         (it.meaning was))

@@ -6,7 +6,7 @@ use Rattle.lending.specs.declared.lease.Lease.{Lease}
 use Rattle.lending.specs.Office.{State}
 use Rattle.calls.specs.declared.list.Tallies.{Tallies}
 use Rattle.lines.specs.declared.line.totals.Totals.{Totals}
-use Rattle.lines.specs.Lines.{refusal_line, lease_text, writes, total_line}
+use Rattle.lines.specs.Lines.{refusal_line, lease_text, holder_may_write, total_line}
 use Rattle.replay.specs.Faults.{RefusedEvent, without_level}
 
 -- What the line of a live lease shows.
@@ -60,8 +60,15 @@ module _ {S : Type 0} where
   abbrev pub lease_entry : Kind S → (S → List ℕ) → List (Lease S) → Lease S → LeaseEntry
   lease_entry K text roll l =
       record {
-        lease = record { number = l.number; resource = l.resource; holder = l.holder; lender = l.lender; due = l.due; share = text l.share };
-        may_write = writes K roll l;
+        lease = record {
+          number = l.number;
+          resource = l.resource;
+          holder = l.holder;
+          lender = l.lender;
+          due = l.due;
+          share = text l.share;
+        };
+        may_write = holder_may_write K roll l;
       }
 
   -- the live leases
@@ -70,8 +77,19 @@ module _ {S : Type 0} where
 
   -- what an office says at the end, and what was counted
   abbrev pub totals_of : Tallies → State S → Totals
-  totals_of x t = record { issued = t.core.issued; live = length t.core.roll; yielded = x.yielded; merged = x.merged; recalled = x.recalled; lapsed = x.lapsed }
+  totals_of x t = record {
+    issued = t.core.issued;
+    live = length t.core.roll;
+    yielded = x.yielded;
+    merged = x.merged;
+    recalled = x.recalled;
+    lapsed = x.lapsed;
+  }
 
   -- the refused events, what was counted, and what the office stands for at the end
   abbrev pub contents_opened : Kind S → (S → List ℕ) → List RefusedEvent → Tallies → State S → Contents
-  contents_opened K text refused tallies t = record { refusals = refused; leases = lease_entries K text t.core.roll; totals = Some (totals_of tallies t) }
+  contents_opened K text refused tallies t = record {
+    refusals = refused;
+    leases = lease_entries K text t.core.roll;
+    totals = Some (totals_of tallies t);
+  }

@@ -10,6 +10,7 @@ use Rattle.replay.specs.Whole.{refusals, tallies_of, run}
 use Rattle.printout.specs.Contents.{Contents, contents_unopened, contents_opened}
 
 module _ {S : Type 0} (K : Kind S) (layers : Layers S) where
+  -- by what opening the book says
   abbrev pub contents_by : Result Header ℕ → (S → List ℕ) → List ℕ → State S → Contents
   contents_by (Err n) text b s = contents_unopened n
   contents_by (Ok header) text b s =
@@ -19,6 +20,7 @@ module _ {S : Type 0} (K : Kind S) (layers : Layers S) where
   abbrev pub contents : (S → List ℕ) → List ℕ → State S → Contents
   contents text b s = contents_by (opening b) text b s
 
+  -- by what opening the book says
   abbrev pub refused_events_by : Result Header ℕ → List ℕ → State S → List RefusedEvent
   refused_events_by (Err n) b s = []
   refused_events_by (Ok header) b s = refusals (run K layers b s (event_count b)).0
@@ -27,6 +29,7 @@ module _ {S : Type 0} (K : Kind S) (layers : Layers S) where
   abbrev pub refused_events : List ℕ → State S → List RefusedEvent
   refused_events b s = refused_events_by (opening b) b s
 
+  -- by what opening the book says
   abbrev pub state_left_by : Result Header ℕ → List ℕ → State S → State S
   state_left_by (Err n) b s = s
   state_left_by (Ok header) b s = (run K layers b s (event_count b)).1

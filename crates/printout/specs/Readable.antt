@@ -10,11 +10,13 @@ use Rattle.printout.specs.Contents.{LeaseEntry, Contents, printout_bytes}
 abbrev pub Small : ℕ → Type 0
 Small n = n < 2 ^ 64
 
+-- The numbers of a refusal fit 64 bits.
 pub record ReadableRefusal (x : RefusedEvent) : Type 0 where
   pub event : Small x.event
   pub number : Small x.number
   pub level : IfSome x.level Small
 
+-- The numbers of a live lease fit 64 bits, and the text of its share has no line break.
 pub record ReadableLease (x : LeaseEntry) : Type 0 where
   pub number : Small x.lease.number
   pub resource : Small x.lease.resource
@@ -23,6 +25,7 @@ pub record ReadableLease (x : LeaseEntry) : Type 0 where
   pub due : Small x.lease.due
   pub text : Lacks 10 x.lease.share
 
+-- The totals fit 64 bits.
 pub record ReadableTotals (x : Totals) : Type 0 where
   pub issued : Small x.issued
   pub live : Small x.live

@@ -30,10 +30,12 @@ module _ {S : Type 0} where
   abbrev pub ConservedIn : Header → Kind S → List ℕ → Type 0
   ConservedIn header K b = RunConserved K (book_layers header) b (book_office header) (event_count b)
 
+-- by what opening the book says
 abbrev pub tenancy_contents_by : Result Header ℕ → List ℕ → Contents
 tenancy_contents_by (Err n) b = contents_unopened n
 tenancy_contents_by (Ok header) b = by_kind (λ k. contents_in header k.kind k.text b) header.kind
 
+-- by what opening the book says
 abbrev pub TenancyConservedBy : Result Header ℕ → List ℕ → Type 0
 TenancyConservedBy (Err n) b = Unit {0}
 TenancyConservedBy (Ok header) b = by_kind (λ k. ConservedIn header k.kind b) header.kind

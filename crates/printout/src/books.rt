@@ -3,7 +3,7 @@ ghost use Rattle.lending.specs.Promise.{LendingConserved};
 ghost use Rattle.replay.specs.Books.{BookConserves};
 ghost use Rattle.replay.specs.Faults.{refused_event};
 ghost use Rattle.printout.specs.Adds.{AddsTo};
-ghost use Rattle.printout.specs.Books.{book_contents, BookPrinted};
+ghost use Rattle.printout.specs.Books.{BookPrinted};
 ghost use Rattle.printout.specs.Contents.{contents_opened, printout_bytes};
 ghost use Rattle.printout.specs.Readable.{IsReadable, OneContents};
 
@@ -29,7 +29,6 @@ where
     O::Kind: Printed,
     ensures printed { BookPrinted O.Kind.kind O.Office O.Kind.text book.now office.old office.new faults.old faults.new
         out.old out.new result }
-    ensures readable { OnOk result (IsReadable (book_contents O.Kind.kind O.Office O.Kind.text book.now office.old)) }
     ensures read_back { OneContents }
     ensures conserved { BookConserves O.Kind.kind O.Office book.now office.old }
     ensures always { LendingConserved O.Kind.kind }
@@ -49,7 +48,6 @@ where
     O::Kind: Printed,
     ensures printed { BookPrinted O.Kind.kind O.Office O.Kind.text book.now office.old office.new faults.old faults.new
         out.old out.new result }
-    ensures readable { OnOk result (IsReadable (book_contents O.Kind.kind O.Office O.Kind.text book.now office.old)) }
     ensures conserved { BookConserves O.Kind.kind O.Office book.now office.old }
 {
     let earlier = faults.len();

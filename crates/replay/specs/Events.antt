@@ -33,6 +33,7 @@ abbrev pub if_left : Option (ℕ × List ℕ) → Result (ℕ × List ℕ) ℕ
 if_left None = Err 46
 if_left (Some event) = Ok event
 
+-- what was found in a book, if the book opens
 abbrev pub if_opened : Result Header ℕ → Result (ℕ × List ℕ) ℕ → Result (ℕ × List ℕ) ℕ
 if_opened (Err n) found = Err n
 if_opened (Ok header) found = found
@@ -41,10 +42,12 @@ if_opened (Ok header) found = found
 unfoldable pub event_at : List ℕ → ℕ → Result (ℕ × List ℕ) ℕ
 event_at b i = if_opened (opening b) (if_left (event_in b i))
 
+-- what an event asks for, by its code and operands
 abbrev pub asks : Result (Code × List ℕ) ℕ → Next
 asks (Err n) = no_call n
 asks (Ok x) = a_call (call_of x.0 x.1)
 
+-- what comes next, by the event that was found
 abbrev pub next_by : Result (ℕ × List ℕ) ℕ → Next
 next_by (Err n) = nothing n
 next_by (Ok event) = asks (code_and_operands event.0 event.1)

@@ -3,7 +3,7 @@ use Rattle.std.specs.Prelude.{ℕ, Option, Some, None, Result, Ok, Err}
 use Rattle.lending.specs.declared.refusal.Refusal.{Refusal}
 use Rattle.lending.specs.Office as office
 use Rattle.lending.specs.Outcome.{Answer}
-use Rattle.lending.specs.Outcome.Answer.{done, number, lease, share, refused}
+use Rattle.lending.specs.Outcome.Answer.{refused}
 use Rattle.lending.specs.Answers as lending
 use Rattle.book.specs.declared.reason.BookReason.{BookReason}
 use Rattle.book.specs.Numbers as book
@@ -15,13 +15,16 @@ use Rattle.replay.specs.declared.fault.Fault.{Fault}
 abbrev pub fault_of_book : BookReason → Fault
 fault_of_book reason = record { event = 0; cause = Book reason }
 
+-- the same of an office's refusal
 abbrev pub fault_of_office : Refusal → Fault
 fault_of_office refusal = record { event = 0; cause = Office refusal }
 
+-- the number of the refusal
 abbrev pub cause_number : Cause → ℕ
 cause_number (Book reason) = book.book_reason_number reason
 cause_number (Office refusal) = lending.reason_number refusal.reason
 
+-- its level, if an office refused
 abbrev pub cause_level : Cause → Option ℕ
 cause_level (Book reason) = None
 cause_level (Office refusal) = Some refusal.level
@@ -33,6 +36,7 @@ pub record RefusedEvent : Type 0 where
   pub number : ℕ
   pub level : Option ℕ
 
+-- what a fault tells
 abbrev pub refused_event : Fault → RefusedEvent
 refused_event fault = record { event = fault.event; number = cause_number fault.cause; level = cause_level fault.cause }
 
@@ -52,8 +56,5 @@ with_level event r = record { event = event; number = r.number; level = Some r.l
 module _ {S : Type 0} where
   -- what a call's answer tells at an event, if the office refused
   abbrev pub refused_event_at : ℕ → Answer S → Option RefusedEvent
-  refused_event_at event done = None
-  refused_event_at event (number n) = None
-  refused_event_at event (lease l) = None
-  refused_event_at event (share s) = None
   refused_event_at event (refused r) = Some (with_level event r)
+  refused_event_at event a = None

@@ -25,6 +25,7 @@ abbrev pub Opens : Result Header ℕ → ℕ → Type 0
 Opens (Err k) n = ⊥
 Opens (Ok header) n = header.events ≡ n
 
+-- a list of what there is
 abbrev pub one_or_none : Option RefusedEvent → List RefusedEvent
 one_or_none None = []
 one_or_none (Some x) = x ∷ []
@@ -53,7 +54,12 @@ module _ {S : Type 0} where
 
   -- what granted yields and merges, recalls, and days closed
   abbrev pub tallies_of : List (Turn S) → Tallies
-  tallies_of es = record { yielded = yielded (history es); merged = merged (history es); recalled = recalled (history es); lapsed = lapsed (history es) }
+  tallies_of es = record {
+    yielded = yielded (history es);
+    merged = merged (history es);
+    recalled = recalled (history es);
+    lapsed = lapsed (history es);
+  }
 
 module _ {S : Type 0} (K : Kind S) (layers : Layers S) where
   -- one event more

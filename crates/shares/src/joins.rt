@@ -14,8 +14,8 @@ pub fn join_all<S: Share>(shares: &[S]) -> Option<S>
     add_up(shares)
 }
 
-// The shares joined one after another, from the first on. The loop is a function of its own, so that a wrong call of it
-// is refused where it stands.
+// The shares joined one after another, from the first on. (A function of its own, so that a wrong call of it is refused
+// in the line that calls it.)
 fn add_up<S: Share>(shares: &[S]) -> Option<S>
     ensures is { result ≡ together S.kind shares.now }
     ensures any_way { (g : Grouping S) → Perm (leaves g) shares.now → grouped S.kind g ≡ result }

@@ -4,6 +4,7 @@ use Rattle.trees.specs.declared.trees.Trees.{Trees}
 use Rattle.trees.specs.Tree.{Tree, node, ●, ○, Canonical, ◌⊔◌, ◌⊓◌, ◌⋈◌, height, has_filled_cell, text}
 use Rattle.trees.specs.Cells.{span, tree_of, tree, union, halves}
 
+-- Tree shares are the canonical trees of height at most 6.
 pub record SharesAreCanonicalTrees : Type 0 where
   -- each share has a canonical tree of height at most 6, and each such tree is that of just one share
   pub canonical : (s : Trees) → Canonical (tree s) × (height (tree s) ≤ 6)

@@ -15,6 +15,7 @@ abbrev pub span : ℕ → ℕ
 span zero = 1
 span (suc h) = span h + span h
 
+-- a cell that is not empty
 abbrev pub filled : ℕ → Bool
 filled zero = false
 filled (suc n) = true
@@ -58,6 +59,7 @@ cut n =
 abbrev pub halves : Trees → Option (Trees × Trees)
 halves s = bind (cut s.cells) (λ p. Some (trees_of_cells p.0, trees_of_cells p.1))
 
+-- tree shares as a kind of share
 abbrev pub trees_kind : Kind Trees
 trees_kind = record {
   empty = trees_of_cells 0;

@@ -1,13 +1,16 @@
 -- The tree shares of Dockins, Hobor and Appel: binary trees whose leaves are filled or empty.
 use Rattle.std.specs.Prelude.{ℕ, zero, suc, max, Bool, true, false, ◌||◌, List, [], ◌∷◌, ◌++◌}
 
+-- A tree: a leaf that is filled or empty, or a lower and an upper half.
 pub data Tree : Type 0 where
   leaf : Bool → Tree
   node : Tree → Tree → Tree
 
+-- the filled leaf
 abbrev pub ● : Tree
 ● = leaf true
 
+-- the empty leaf
 abbrev pub ○ : Tree
 ○ = leaf false
 
@@ -21,6 +24,7 @@ Alike (leaf false) (leaf false) = Unit {0}
 Alike (leaf false) (node l r) = ⊥
 Alike (node a b) t = ⊥
 
+-- no two halves are the same leaf
 abbrev pub Canonical : Tree → Type 0
 Canonical (leaf b) = Unit {0}
 Canonical (node l r) = (Alike l r → ⊥) × Canonical l × Canonical r
@@ -35,11 +39,12 @@ fold (leaf false) (leaf false) = ○
 fold (leaf false) (node l r) = node ○ (node l r)
 fold (node a b) t = node (node a b) t
 
--- the halves of a tree; a leaf is two leaves like it
+-- the lower half of a tree; a leaf is two leaves like it
 abbrev pub lower : Tree → Tree
 lower (leaf b) = leaf b
 lower (node l r) = l
 
+-- the upper one
 abbrev pub upper : Tree → Tree
 upper (leaf b) = leaf b
 upper (node l r) = r
@@ -70,6 +75,7 @@ kept t = ◌⋈◌ t (node ● ○)
 abbrev pub lent : Tree → Tree
 lent t = ◌⋈◌ t (node ○ ●)
 
+-- how deep a tree is
 abbrev pub height : Tree → ℕ
 height (leaf b) = 0
 height (node l r) = suc (max (height l) (height r))

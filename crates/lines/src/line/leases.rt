@@ -6,7 +6,7 @@ ghost use Rattle.lines.specs.declared.reason.LineReason.TheVariants.{NoSuchPosit
 ghost use Rattle.lines.specs.declared.line.TheConstants.{ROOM};
 ghost use Rattle.shares.specs.Text.{longest_text};
 ghost use Rattle.lines.specs.Answers.{WritesLine};
-ghost use Rattle.lines.specs.Lines.{letter, writes, lease_text, line_at, LinesAreShort, LettersTell};
+ghost use Rattle.lines.specs.Lines.{letter, holder_may_write, lease_text, line_at, LinesAreShort, LettersTell};
 
 use super::{Line, put, write_bytes, write_field};
 use crate::reason::LineReason;
@@ -53,7 +53,7 @@ where
 
 // Whether the holder of a lease may write its resource.
 fn holder_may_write<O: Office>(office: &O, lease: Lease<O::Kind>) -> bool
-    ensures { result ≡ writes O.Kind.kind (O.meaning office.now).core.roll lease }
+    ensures { result ≡ holder_may_write O.Kind.kind (O.meaning office.now).core.roll lease }
 {
     may_write(office, lease.resource, lease.holder)
 }

@@ -44,8 +44,8 @@ impl Block {
     }
 }
 
-// Writes the text of some cells at the front of a space, and answers its length. It is a function of its own, so that a
-// wrong call of it is refused where it stands.
+// Writes the text of some cells at the front of a space, and answers its length. (A function of its own, so that a
+// wrong call of it is refused in the line that calls it.)
 pub(crate) fn write_cells(cells: u64, space: &mut [u8; LONGEST_TEXT]) -> usize
     ensures length { result ≡ length (text (tree_of 6 cells)) }
     ensures bytes { space.new ≡ in_front (text (tree_of 6 cells)) space.old }

@@ -16,6 +16,7 @@ returns g c =
     record {
       piled = record {
         stands = three_stand quota term chain _ _ _ (g.O.Office.meaning c.args.below) a.stands b.stands d.stands;
+        set_up = λ up. d.set_up (b.set_up (a.set_up up));
         its_layers = three_layers quota term chain _ _ _ (g.O.Office.layers c.args.below) a.its_layers b.its_layers d.its_layers;
         same_rows = d.same_rows ∙ b.same_rows ∙ a.same_rows;
         same_loan = d.same_loan ∙ b.same_loan ∙ a.same_loan;

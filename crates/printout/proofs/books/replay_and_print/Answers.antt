@@ -1,4 +1,4 @@
-use Rattle.std.proofs.Common.{◌≡◌, None, Some, IfOk, OnOk, OnErr, List, ℕ, inl, inr, drop, map, vec_len, vec_capacity, sym, ap, ◌∙◌, subst, arith}
+use Rattle.std.proofs.Common.{◌≡◌, None, Some, IfOk, OnOk, OnErr, List, ℕ, inl, inr, drop, map, vec_len, vec_capacity, refl, sym, ap, ◌∙◌, subst, arith}
 use Rattle.book.specs.Books.{opening, event_count}
 use Rattle.replay.specs.Faults.{refused_event, refused_event_in}
 use Rattle.replay.specs.Whole.{Replay, opening_refused}
@@ -30,6 +30,7 @@ returns-in-Ok-clause-printed g c =
     let leaves = opened_leaves K layers text b s (opening b) opens t replayed.leaves in
     record {
       prints = adds.ok;
+      readable = subst (λ (p : Contents). OnOk c.add_lines.result (IsReadable p)) shows c.add_lines.ensures.readable;
       refused = on_ok c.add_lines.result (opened_refuses K layers text b s (opening b) opens _ replayed.refused);
       leaves = on_ok c.add_lines.result leaves;
       begins = adds.begins;
@@ -41,21 +42,6 @@ returns-in-Ok-clause-printed g c =
       room = λ fit fits. adds_room c.args.out.now.items c.add_lines.new.out.items (printout_bytes (book_contents K g.O.Office text b c.args.office.now)) (vec_len c.args.out.now) (vec_capacity c.args.out.now) (vec_capacity c.add_lines.new.out) c.add_lines.result adds c.args.out.now.ok.0 fits;
       keeps = read.keeps;
     }
-
-pub returns-in-Ok-clause-readable : goal.returns-in-Ok-clause-readable
-returns-in-Ok-clause-readable g c =
-    let K = g.O.Kind.Share.kind in
-    let layers = g.O.Office.layers c.args.office.now in
-    let text = g.O.Kind.Printed.text in
-    let b = c.args.book.now in
-    let s = g.O.Office.meaning c.args.office.now in
-    let t = g.O.Office.meaning c.replay.new.office in
-    let n = vec_len c.args.faults.now in
-    let all = c.replay.new.faults.items in
-    let opens : None ≡ opening_refused (opening b) = sym (ap refused_event_in c.in-Ok.is) ∙ c.in_ok-finished.ensures.reads.opens in
-    let replayed : Replay K layers b s (event_count b) (drop n all) c.in-Ok.finished.closed t = subst (λ o. IfOk o (λ finished. Replay K layers b s (event_count b) (drop n all) finished.closed t)) c.in-Ok.is (c.in_ok-finished.ensures.runs g.met.O.Piled.follow) in
-    let shows = replay_shows K layers text b s opens all c.deref.result.now n c.len-earlier.result c.in-Ok.finished.closed c.tallies.result t c.deref.ensures.value c.len-earlier.ensures c.tallies.ensures replayed in
-    subst (λ (p : Contents). OnOk c.add_lines.result (IsReadable p)) shows c.add_lines.ensures.readable
 
 pub returns-in-Err-clause-printed : goal.returns-in-Err-clause-printed
 returns-in-Err-clause-printed g c =
@@ -73,6 +59,7 @@ returns-in-Err-clause-printed g c =
     let leaves = ap g.O.Office.meaning same.0 ∙ unopened_leaves K layers text b s (opening b) fault opens in
     record {
       prints = adds.ok;
+      readable = on_ok c.add_refusal.result (subst IsReadable (unopened_shows K layers text b s (opening b) fault opens) (record { refusals = (c.add_refusal.ensures.readable, tt); leases = tt; totals = tt; whole = refl }));
       refused = on_ok c.add_refusal.result (ap (λ v. map refused_event (drop (vec_len was) v.items)) same.1 ∙ ap (map refused_event) (drop_none was.items (vec_len was) (let e = was.ok.0 in omega (arith, e))) ∙ unopened_refuses K layers text b s (opening b) fault opens);
       leaves = on_ok c.add_refusal.result leaves;
       begins = adds.begins;

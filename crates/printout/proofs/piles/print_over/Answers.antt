@@ -18,4 +18,4 @@ returns-clause-readable g c =
     let piled = c.book_pile-office.ensures.piled in
     let layers = piled.its_layers ∙ ap (λ (n : ℕ). house_layers 64 h.term n ++ g.O.Office.layers c.args.below) c.from.ensures in
     let stands = piled.stands ∙ ap (λ (n : ℕ). pile (house_layers 64 h.term n) (g.O.Office.meaning c.args.below)) c.from.ensures in
-    readable_over g.O.Kind.Share.kind g.O.Kind.Printed.text c.args.book.now layers stands c.in_ok-print_book.ensures.readable
+    readable_over g.O.Kind.Share.kind g.O.Kind.Printed.text c.args.book.now layers stands c.in_ok-print_book.ensures.printed.readable

@@ -27,7 +27,7 @@ returns-in-Some g c =
     record {
       core = same_core (take l.count (set l.rows.now k x)) (change x.number (λ o. x) (take l.count l.rows.now)) l.issued l.today (min most_rows (length (set l.rows.now k x))) (min most_rows (length l.rows.now)) (row_roll l x.number k x f) (ap (min most_rows) len);
       rest = row_rest l x.number k x f;
-      lent = refl;
+      loan = refl;
     }
 
 pub returns-in_default : goal.returns-in_default
