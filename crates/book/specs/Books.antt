@@ -7,7 +7,7 @@ use Rattle.book.specs.declared.header.Header.{Header}
 use Rattle.book.specs.declared.book.Book.{Book}
 use Rattle.book.specs.declared.event.Event.{Event}
 use Rattle.book.specs.declared.reason.BookReason.{BookReason}
-use Rattle.book.specs.declared.limits.TheConstants.{HEADER, RECORD, EVENT, MOST_EVENTS}
+use Rattle.book.specs.Limits.{header_size, record_size, event_size, most_events}
 use Rattle.book.specs.Bytes.{number_at, two_bytes}
 use Rattle.book.specs.Numbers.{book_reason_number}
 
@@ -20,7 +20,7 @@ abbrev pub with_kind : List ℕ → Option KindOfShare → Result Header ℕ
 with_kind b None = Err 43
 with_kind b (Some kind) =
     if nat_lt 0 (number_at b 6) then Err 44 else
-    (if length b == HEADER + EVENT * event_count b then
+    (if length b == header_size + event_size * event_count b then
     Ok (record { events = event_count b; kind = kind; chain = slice_index b 3; term = number_at b 4 })
     else Err 45)
 
@@ -28,8 +28,8 @@ with_kind b (Some kind) =
 -- events.
 abbrev pub opening : List ℕ → Result Header ℕ
 opening b =
-    if nat_lt (length b) HEADER then Err 41 else
-    (if nat_lt MOST_EVENTS (event_count b) then Err 42 else
+    if nat_lt (length b) header_size then Err 41 else
+    (if nat_lt most_events (event_count b) then Err 42 else
     with_kind b (kind_of_byte (slice_index b 2)))
 
 -- opening the first bytes of an input, so many at most, says what opening all of them says
@@ -53,7 +53,7 @@ book_bytes book = header_bytes book.header ++ book.codes.now ++ book.records.now
 abbrev pub event_in : List ℕ → ℕ → Option (ℕ × List ℕ)
 event_in b i =
     if nat_lt i (event_count b) then
-    Some (slice_index b (HEADER + i), take RECORD (drop (HEADER + event_count b + RECORD * i) b))
+    Some (slice_index b (header_size + i), take record_size (drop (header_size + event_count b + record_size * i) b))
     else None
 
 -- an event of the code

@@ -1,5 +1,5 @@
 ghost use Rattle.std.specs.Prelude.{◌≡◌, ◌*◌, ◌≤◌, length};
-ghost use Rattle.book.specs.declared.limits.TheConstants.{MOST_EVENTS, RECORD};
+ghost use Rattle.book.specs.Limits.{header_size, record_size, most_events};
 
 use crate::event::Event;
 use crate::header::Header;
@@ -15,9 +15,9 @@ pub struct Book<'a> {
     pub codes: &'a [u8],
     /// a record for each event
     pub records: &'a [u8],
-    ghost few: { header.events ≤ MOST_EVENTS },
+    ghost few: { header.events ≤ most_events },
     ghost coded: { length codes.now ≡ header.events },
-    ghost recorded: { length records.now ≡ RECORD * header.events },
+    ghost recorded: { length records.now ≡ record_size * header.events },
 }
 
 impl<'a> Book<'a> {
@@ -30,7 +30,7 @@ impl<'a> Book<'a> {
     pub fn open(bytes: &'a [u8]) -> Result<Book<'a>, BookReason>
         ensures is { header_or_number result ≡ opening bytes.now }
         ensures whole { IfOk result (λ book. book_bytes book ≡ bytes.now) }
-        ensures codes { IfOk result (λ book. book.codes.ref_ptr ≡ further bytes.entry.ref_ptr HEADER) }
+        ensures codes { IfOk result (λ book. book.codes.ref_ptr ≡ further bytes.entry.ref_ptr header_size) }
         ensures records { IfOk result (λ book. book.records.ref_ptr ≡ further book.codes.ref_ptr book.header.events) }
     {
         let [n0, n1, kind, chain, t0, t1, z0, z1, rest @ ..] = bytes else {
@@ -67,7 +67,7 @@ impl<'a> Book<'a> {
     #[tactic(auto, using(crate::proofs::Parts::event_at))]
     pub fn event(&self, i: usize) -> Option<Event<'a>>
         ensures is { event_parts result ≡ event_in (book_bytes self.now) i }
-        ensures place { IfSome result (λ event. event.bytes.ref_ptr ≡ further self.now.records.ref_ptr (RECORD * i)) }
+        ensures place { IfSome result (λ event. event.bytes.ref_ptr ≡ further self.now.records.ref_ptr (record_size * i)) }
     {
         let code = *self.codes.get(i)?;
         let first = RECORD * i;

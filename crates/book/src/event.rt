@@ -1,6 +1,6 @@
 ghost use Rattle.std.specs.Prelude.{◌≡◌, ◌==◌, length};
 ghost use Rattle.std.specs.List.{list_all};
-ghost use Rattle.book.specs.declared.limits.TheConstants.{RECORD};
+ghost use Rattle.book.specs.Limits.{record_size};
 
 use crate::code::Code;
 use crate::reason::BookReason;
@@ -11,7 +11,7 @@ pub struct Event<'a> {
     pub code: u8,
     /// a slice and no array, since the library doesn't say of an array that it makes of a slice where the array stands
     pub bytes: &'a [u8],
-    ghost sized: { length bytes.now ≡ RECORD },
+    ghost sized: { length bytes.now ≡ record_size },
 }
 
 impl Event<'_> {

@@ -69,8 +69,8 @@ module _ {O S : Type 0} (K : Kind S) (it : Ghosts O S) (before : O) where
 
   -- the hand-in of a job, at the office between
   abbrev pub hand_in_moment : ℕ → Job → O → Moment S
-  hand_in_moment lease job between =
-      record { before = it.meaning between; call = hand_in lease; answer = number job.closed }
+  hand_in_moment drawn job between =
+      record { before = it.meaning between; call = hand_in drawn; answer = number job.closed }
 
   -- A job did some calls until one was refused, and then handed in a slip for the lease.
   pub record JobDone (lease : ℕ) (calls : List Call) (job : Job) (after : O) : Type 0 where

@@ -6,7 +6,7 @@ use Rattle.std.proofs.lemmas.Fmt.{IsAscii-decimal, length-decimal-le, decimal_in
 use Rattle.std.proofs.lemmas.Str.Ascii.{IsAscii-nil, IsAscii-cons}
 use Rattle.shares.specs.Text.{Lacks}
 use Rattle.shares.proofs.Lines.{decimal_lacks}
-use Rattle.shares.specs.declared.printed.TheConstants.{LONGEST_TEXT}
+use Rattle.shares.specs.Text.{longest_text}
 use Rattle.counting.specs.declared.permission.Permission.{Permission}
 use Rattle.counting.specs.declared.permission.Permission.TheVariants.{Empty, Source, Readers}
 use Rattle.counting.specs.declared.counting.Counting.{Counting}
@@ -17,7 +17,7 @@ use Rattle.counting.specs.KindLaws.{same_held, source_few, readers_few}
 digits_short : (n : ℕ) → n ≤ 4095 → length (decimal n) ≤ 4
 digits_short n h = length-decimal-le 4 n (omega arith) (omega arith) (omega arith)
 
-pub short : (p : Permission) → within p ≡ true → length (permission_text p) ≤ LONGEST_TEXT
+pub short : (p : Permission) → within p ≡ true → length (permission_text p) ≤ longest_text
 short Empty e = omega arith
 short (Source n) e = omega (arith, digits_short n (source_few n e))
 short (Readers k) e = omega (arith, digits_short k (readers_few k e).1)

@@ -8,8 +8,11 @@ use Rattle.lending.specs.Office.{State}
 use Rattle.lending.specs.Above.{standing_of}
 use Rattle.lending.specs.Promise.{Live}
 use Rattle.lending.specs.Effects.{MayWrite}
-use Rattle.lines.specs.declared.line.TheConstants.{LONGEST_LINE}
 use Rattle.lines.specs.declared.line.totals.Totals.{Totals}
+
+-- no line has more bytes, its newline too
+abbrev pub longest_line : ℕ
+longest_line = 219
 
 -- a number in decimal, and a blank
 abbrev pub field : ℕ → List ℕ
@@ -55,7 +58,7 @@ module _ {S : Type 0} where
 
   -- No live lease has a line of more than 219 bytes.
   abbrev pub LinesAreShort : Kind S → (S → List ℕ) → State S → Type 0
-  LinesAreShort K text s = (l : Lease S) → Live s l → length (lease_line K text s.core.roll l) ≤ LONGEST_LINE
+  LinesAreShort K text s = (l : Lease S) → Live s l → length (lease_line K text s.core.roll l) ≤ longest_line
 
   -- The line of each live lease has a `w` exactly if its holder may write.
   abbrev pub LettersTell : Kind S → State S → Type 0

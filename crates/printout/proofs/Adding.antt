@@ -1,6 +1,6 @@
 -- Lines added to some bytes.
 use Rattle.std.proofs.Common.{◌≡◌, ℕ, zero, suc, ◌+◌, ◌<◌, ◌≤◌, List, [], ◌∷◌, ◌++◌, length, map, take, drop, get_or, slice_get, Bool, true, Some, Option, Ok, Err, Result, IsOk, nat_le, if◌then◌else◌, refl, sym, ap, ap₂, ◌∙◌, subst, arith, le_of_suc-le-suc}
-use Rattle.lines.specs.declared.line.TheConstants.{LONGEST_LINE}
+use Rattle.lines.specs.Lines.{longest_line}
 use Rattle.std.specs.List.{AllByRecursion}
 use Rattle.std.specs.Option.{option_map, unwrap_or}
 use Rattle.std.proofs.lemmas.Bool.{le-leb}
@@ -51,24 +51,24 @@ granted (Ok n) o = refl
 granted (Err reason) o = o
 
 -- a line of at most 219 bytes fits a space of 219 bytes
-line_told : (line space : List ℕ) → length line ≤ LONGEST_LINE → length space ≡ LONGEST_LINE → line_answer (Some line) space ≡ Ok (length line)
+line_told : (line space : List ℕ) → length line ≤ longest_line → length space ≡ longest_line → line_answer (Some line) space ≡ Ok (length line)
 line_told line space few size =
     let test : nat_le (length line) (length space) ≡ true = le-leb (length line) (length space) (omega (arith, few, size)) in
     ap (λ (b : Bool). if b then Ok (length line) else too_long) test
 
-line_fits : (line space : List ℕ) → length line ≤ LONGEST_LINE → length space ≡ LONGEST_LINE → (r : Result ℕ LineReason) → line_written r ≡ line_answer (Some line) space → IsOk r
+line_fits : (line space : List ℕ) → length line ≤ longest_line → length space ≡ longest_line → (r : Result ℕ LineReason) → line_written r ≡ line_answer (Some line) space → IsOk r
 line_fits line space few size r e = granted r (subst IsOk (sym (e ∙ line_told line space few size)) refl)
 
 module _ {S : Type 0} (K : Kind S) (text : S → List ℕ) where
   -- the line of a live lease fits a space of 219 bytes
-  pub fits : (s : State S) (i : ℕ) → i < length s.core.roll → LinesAreShort K text s → (space : List ℕ) → length space ≡ LONGEST_LINE → (r : Result ℕ LineReason) → line_written r ≡ line_answer (line_at K text s.core.roll i) space → IsOk r
+  pub fits : (s : State S) (i : ℕ) → i < length s.core.roll → LinesAreShort K text s → (space : List ℕ) → length space ≡ longest_line → (r : Result ℕ LineReason) → line_written r ≡ line_answer (line_at K text s.core.roll i) space → IsOk r
   fits s i l short space size r e =
       let x = at s.core.roll i l in
       let line = lease_line K text s.core.roll x.0 in
       line_fits line space (short x.0 x.2) size r (e ∙ ap (λ (o : Option (Lease S)). line_answer (option_map (lease_line K text s.core.roll) o) space) x.1)
 
 -- what a line call left at the front of its space
-pub placed : (line space after : List ℕ) (r : Result ℕ LineReason) (n : ℕ) → length line ≤ LONGEST_LINE → length space ≡ LONGEST_LINE → line_written r ≡ line_answer (Some line) space → after ≡ space_after (Some line) space → r ≡ Ok n → take n after ≡ line
+pub placed : (line space after : List ℕ) (r : Result ℕ LineReason) (n : ℕ) → length line ≤ longest_line → length space ≡ longest_line → line_written r ≡ line_answer (Some line) space → after ≡ space_after (Some line) space → r ≡ Ok n → take n after ≡ line
 placed line space after r n few size a b c =
     let test : nat_le (length line) (length space) ≡ true = le-leb (length line) (length space) (omega (arith, few, size)) in
     let d : ◌≡◌ {A = Result ℕ Refusal} (Ok n) (Ok (length line)) = sym (ap line_written c) ∙ a ∙ line_told line space few size in
@@ -99,7 +99,7 @@ module _ {S : Type 0} (K : Kind S) (text : S → List ℕ) (roll : List (Lease S
   no_lines i l = ap (λ (ls : List (Lease S)). lease_bytes (map (lease_entry K text roll) ls)) (drop_none roll i l)
 
   -- what a call for that line left at the front of its space
-  pub placed_there : (i : ℕ) → i < length roll → ((l : Lease S) → Memᴰ l roll → length (lease_line K text roll l) ≤ LONGEST_LINE) → (space after : List ℕ) (r : Result ℕ LineReason) (n : ℕ) → length space ≡ LONGEST_LINE → line_written r ≡ line_answer (line_at K text roll i) space → after ≡ space_after (line_at K text roll i) space → r ≡ Ok n → take n after ≡ line_there i
+  pub placed_there : (i : ℕ) → i < length roll → ((l : Lease S) → Memᴰ l roll → length (lease_line K text roll l) ≤ longest_line) → (space after : List ℕ) (r : Result ℕ LineReason) (n : ℕ) → length space ≡ longest_line → line_written r ≡ line_answer (line_at K text roll i) space → after ≡ space_after (line_at K text roll i) space → r ≡ Ok n → take n after ≡ line_there i
   placed_there i l short space after r n size a b c =
       let x = at roll i l in
       let e = ap (option_map (lease_line K text roll)) x.1 in

@@ -1,7 +1,7 @@
 // The next event of a book, and the call that it asks for.
 ghost use Rattle.std.specs.Prelude.{◌≡◌, ◌<◌, ◌+◌, ◌*◌, IfOk, OnOk};
 ghost use Rattle.book.specs.Books.{event_count, opening};
-ghost use Rattle.book.specs.declared.limits.TheConstants.{MOST_EVENTS};
+ghost use Rattle.book.specs.Limits.{header_size, record_size, most_events};
 ghost use Rattle.book.specs.Places.{further};
 ghost use Rattle.calls.specs.Values.{call_meant};
 ghost use Rattle.replay.specs.Events.{call_of, event_at, finishing};
@@ -17,9 +17,9 @@ use calls::Call;
 #[tactic(auto, unfolding(crate::specs::Events::event_at))]
 pub(crate) fn next_event(book: &[u8], done: u16) -> Result<Event<'_>, Fault>
     ensures is { event_or_refused result ≡ refused_in_place (event_at book.now done) }
-    ensures few { OnOk result (done < MOST_EVENTS) }
+    ensures few { OnOk result (done < most_events) }
     ensures place { IfOk result (λ event. event.bytes.ref_ptr ≡ further book.entry.ref_ptr
-        (HEADER + event_count book.now + RECORD * done)) }
+        (header_size + event_count book.now + record_size * done)) }
 {
     let book = Book::open(book)?;
     let event = book

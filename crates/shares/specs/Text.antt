@@ -6,6 +6,10 @@ use Rattle.std.specs.List.{AllByRecursion}
 abbrev pub in_front : List ℕ → List ℕ → List ℕ
 in_front text space = text ++ drop (length text) space
 
+-- no share's text has more bytes
+abbrev pub longest_text : ℕ
+longest_text = 190
+
 -- none of the bytes is this one
 abbrev pub Lacks : ℕ → List ℕ → Type 0
 Lacks byte bytes = AllByRecursion (λ x. x ≢ byte) bytes

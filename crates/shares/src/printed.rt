@@ -1,6 +1,6 @@
 ghost use Rattle.std.specs.Prelude.{◌≡◌, ℕ, ◌≤◌, ◌↔◌, List, length};
 ghost use Rattle.shares.specs.Text.{in_front, NoLineBreak};
-ghost use Rattle.shares.specs.declared.printed.TheConstants.{LONGEST_TEXT};
+ghost use Rattle.shares.specs.Text.{longest_text};
 
 use crate::share::Share;
 
@@ -18,7 +18,7 @@ pub trait Printed: Share {
         ensures length { result ≡ length (text self) }
         ensures bytes { space.new ≡ in_front (text self) space.old };
 
-    ghost short: { (a : Self) → length (text a) ≤ LONGEST_TEXT };
+    ghost short: { (a : Self) → length (text a) ≤ longest_text };
 
     ghost on_a_line: { NoLineBreak text };
 

@@ -6,7 +6,7 @@ use Rattle.std.specs.Int.Bits.{and_lt}
 use Rattle.std.proofs.lemmas.Nat.{or_disjoint}
 use Rattle.std.proofs.Math.Arith.{digits_div, digits_mod}
 use Rattle.shares.specs.Kind.{bind}
-use Rattle.shares.specs.declared.printed.TheConstants.{LONGEST_TEXT}
+use Rattle.shares.specs.Text.{longest_text}
 use Rattle.trees.specs.declared.trees.Trees.{Trees}
 use Rattle.trees.specs.Tree.{Tree, leaf, node, ●, ○, Alike, Canonical, fold, ◌⊓◌, ◌⋈◌, kept, lent, height, has_filled_cell, text}
 use Rattle.trees.specs.Cells.{span, tree_of, cells_of, tree, text_of_share, share, union, halves}
@@ -128,7 +128,7 @@ canonical_trees = record {
   mixed_block = λ h n p z f. ap text (tree_mixed h n p z f);
 }
 
-pub short : (a : Trees) → length (text_of_share a) ≤ LONGEST_TEXT
+pub short : (a : Trees) → length (text_of_share a) ≤ longest_text
 short a = text_short 6 a.cells
 
 -- equal texts, equal trees, equal shares

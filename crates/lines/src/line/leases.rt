@@ -4,7 +4,7 @@ ghost use Rattle.arrayvec.specs.ArrayVec.{array_vec_len};
 ghost use Rattle.lending.specs.Promise.{LendingConserved};
 ghost use Rattle.lines.specs.declared.reason.LineReason.TheVariants.{NoSuchPosition};
 ghost use Rattle.lines.specs.declared.line.TheConstants.{ROOM};
-ghost use Rattle.shares.specs.declared.printed.TheConstants.{LONGEST_TEXT};
+ghost use Rattle.shares.specs.Text.{longest_text};
 ghost use Rattle.lines.specs.Answers.{WritesLine};
 ghost use Rattle.lines.specs.Lines.{letter, writes, lease_text, line_at, LinesAreShort, LettersTell};
 
@@ -83,9 +83,9 @@ fn letter(may_write: bool) -> u8
 
 // Writes the text of a share.
 fn write_share<S: Printed>(line: &mut Line, share: S)
-    requires { array_vec_len line.old + LONGEST_TEXT ≤ ROOM }
+    requires { array_vec_len line.old + longest_text ≤ ROOM }
     ensures text { line.new.items ≡ line.old.items ++ S.text share }
-    ensures short { array_vec_len line.new ≤ array_vec_len line.old + LONGEST_TEXT }
+    ensures short { array_vec_len line.new ≤ array_vec_len line.old + longest_text }
 {
     let mut space = [0u8; LONGEST_TEXT];
     let length = share.write(&mut space);

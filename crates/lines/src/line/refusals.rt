@@ -1,6 +1,6 @@
 ghost use Rattle.std.specs.Prelude.{◌≡◌, ◌+◌, ◌≤◌, [], ◌++◌, length, Some};
 ghost use Rattle.arrayvec.specs.ArrayVec.{array_vec_len};
-ghost use Rattle.lines.specs.declared.line.TheConstants.{LONGEST_LINE};
+ghost use Rattle.lines.specs.Lines.{longest_line};
 ghost use Rattle.lines.specs.declared.line.TheConstants.{ROOM};
 ghost use Rattle.lines.specs.Answers.{WritesLine};
 ghost use Rattle.lines.specs.Lines.{refusal_line, level_text};
@@ -17,7 +17,7 @@ pub fn refusal_line(
     space: &mut [u8],
 ) -> Result<usize, LineReason>
     ensures writes { WritesLine (Some (refusal_line event number level)) space.old space.new result }
-    ensures short { length (refusal_line event number level) ≤ LONGEST_LINE }
+    ensures short { length (refusal_line event number level) ≤ longest_line }
 {
     let mut line = Line::new();
     write_refusal(&mut line, event, number, level);
@@ -28,7 +28,7 @@ pub fn refusal_line(
 fn write_refusal(line: &mut Line, event: usize, number: u8, level: Option<u8>)
     requires { line.old.items ≡ [] }
     ensures text { line.new.items ≡ refusal_line event number level }
-    ensures short { array_vec_len line.new ≤ LONGEST_LINE }
+    ensures short { array_vec_len line.new ≤ longest_line }
 {
     line.push(b'!');
     line.push(b' ');

@@ -1,6 +1,6 @@
 ghost use Rattle.std.specs.Prelude.{◌≡◌, ◌≤◌, [], length, Some};
 ghost use Rattle.arrayvec.specs.ArrayVec.{array_vec_len};
-ghost use Rattle.lines.specs.declared.line.TheConstants.{LONGEST_LINE};
+ghost use Rattle.lines.specs.Lines.{longest_line};
 ghost use Rattle.lines.specs.Answers.{WritesLine};
 ghost use Rattle.lines.specs.Lines.{total_line};
 
@@ -27,7 +27,7 @@ pub struct Totals {
 /// Writes the line of the totals.
 pub fn total_line(totals: Totals, space: &mut [u8]) -> Result<usize, LineReason>
     ensures writes { WritesLine (Some (total_line totals)) space.old space.new result }
-    ensures short { length (total_line totals) ≤ LONGEST_LINE }
+    ensures short { length (total_line totals) ≤ longest_line }
 {
     let mut line = Line::new();
     write_totals(&mut line, totals);
@@ -38,7 +38,7 @@ pub fn total_line(totals: Totals, space: &mut [u8]) -> Result<usize, LineReason>
 fn write_totals(line: &mut Line, totals: Totals)
     requires { line.old.items ≡ [] }
     ensures text { line.new.items ≡ total_line totals }
-    ensures short { array_vec_len line.new ≤ LONGEST_LINE }
+    ensures short { array_vec_len line.new ≤ longest_line }
 {
     line.push(b'=');
     line.push(b' ');
