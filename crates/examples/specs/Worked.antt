@@ -16,6 +16,7 @@ printed_halves s = bind (trees_kind.halve s) (λ h. Some (text_of_share h.0, tex
 abbrev pub printed_join : Trees → Trees → Option (List ℕ)
 printed_join a b = bind (trees_kind.join a b) (λ c. Some (text_of_share c))
 
+-- All of them.
 pub record WorkedExamples : Type 0 where
   -- `1` halves into `(10)` and `(01)`
   pub whole : text_of_share trees_kind.whole ≡ codes "1"
@@ -32,11 +33,13 @@ pub record WorkedExamples : Type 0 where
   pub cell : text_of_share (trees_of_cells 1) ≡ codes "((((((10)0)0)0)0)0)"
   pub cell_halves : trees_kind.halve (trees_of_cells 1) ≡ None
   -- a source that has given out 3 readers gets 3 back and is the whole; 4 are too many
-  pub three_back : counting_kind.join (counting_of (Source 3)) (counting_of (Readers 3)) ≡ Some (counting_of (Source 0))
+  pub three_back : counting_kind.join (counting_of (Source 3)) (counting_of (Readers 3))
+      ≡ Some (counting_of (Source 0))
   pub whole_source : counting_kind.whole ≡ counting_of (Source 0)
   pub four_back : counting_kind.join (counting_of (Source 3)) (counting_of (Readers 4)) ≡ None
   -- a source gives out at most 4,095 readers
-  pub last_reader : counting_kind.halve (counting_of (Source 4094)) ≡ Some (counting_of (Source 4095), counting_of (Readers 1))
+  pub last_reader : counting_kind.halve (counting_of (Source 4094))
+      ≡ Some (counting_of (Source 4095), counting_of (Readers 1))
   pub no_more_readers : counting_kind.halve (counting_of (Source 4095)) ≡ None
   -- ten calls to an office of three layers
   pub book : WorkedBook

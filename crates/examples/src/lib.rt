@@ -1,4 +1,4 @@
-//! Worked examples, proved of the definitions as one property. `tests` runs them as tests of the code.
+//! Worked examples, proved of the definitions as one property. The crate `tests` runs them as tests of the code.
 #![tactic(auto)]
 
 mod worked;

@@ -2,13 +2,11 @@
 use crate::read::{Line, SetUp, Unreadable};
 use crate::show::{print_answer, print_calls, print_refusal, print_roll, print_tallies};
 use calls::{Call, Job, do_job, make, make_all};
-use chain::Chain;
 use ledger::Ledger;
 use lending::Lease;
 use office::Office;
-use quota::Quota;
+use pile::house_pile;
 use shares::PlainText;
-use term::Term;
 
 // Sets up an office, and makes the calls to it.
 pub(crate) fn serve<S: PlainText>(
@@ -17,34 +15,24 @@ pub(crate) fn serve<S: PlainText>(
     lines: &[Line],
 ) -> anyhow::Result<()> {
     println!(rt; "{office}")?;
-    let free = Lease {
-        number: 0,
-        resource: 0,
-        holder: 0,
-        lender: 0,
-        due: 0,
-        share: S::empty(),
-    };
-    let mut rows = vec![in rt.alloc(); free; usize::from(office.rows)]?;
+    let mut rows = vec![in rt.alloc(); Lease::<S>::free(); usize::from(office.rows)]?;
     serve_over(rt, Ledger::new(rows.as_mut_slice()), office, lines)
 }
 
-// Piles the three layers on an office, and makes the calls.
+// Piles the house's layers on an office, and makes the calls.
 fn serve_over<S: PlainText, O: Office<Kind = S> + Drop>(
     rt: &HostRuntime,
     below: O,
     office: SetUp,
     lines: &[Line],
 ) -> anyhow::Result<()> {
-    let chain = Chain::over(below, office.chain);
-    let term = Term::over(chain, office.term);
-    let mut pile = Quota::over(term, office.quota);
+    let mut pile = house_pile(below, office.quota, office.term, office.chain);
     for line in lines {
         match line {
             Line::Call(call) => answer(rt, &mut pile, *call)?,
             Line::List(calls) => answer_list(rt, &mut pile, calls)?,
             Line::Job { lease, calls } => answer_job(rt, &mut pile, *lease, calls)?,
-            // no office stands here: each begins a part of the lines
+            // An office begins a part of the lines, so it never stands among the calls.
             Line::Office(_) | Line::Unreadable => println!(rt; "{Unreadable}")?,
         }
     }

@@ -97,7 +97,10 @@ impl fmt::Display for Unreadable {
     fn fmt<W: fmt::Write>(&self, f: &mut fmt::Formatter<W>) -> fmt::Result {
         write!(
             f,
-            "expected: office KIND ROWS QUOTA TERM CHAIN (KIND is {KIND_NAMES}), or a call to that office: open RESOURCE HOLDER, delegate LENDER HOLDER DUE, yield LEASE, merge A B, assign LEASE HOLDER, set_day DAY, recall LEASE, day DAY, hand_in LEASE, standing RESOURCE HOLDER, count, issued, today, lease NUMBER, lease_at POSITION, or some of these with semicolons between them"
+            "expected: office KIND ROWS QUOTA TERM CHAIN (KIND is {KIND_NAMES}), or a call to that office: \
+             open RESOURCE HOLDER, delegate LENDER HOLDER DUE, yield LEASE, merge A B, assign LEASE HOLDER, \
+             set_day DAY, recall LEASE, day DAY, hand_in LEASE, standing RESOURCE HOLDER, count, issued, today, \
+             lease NUMBER, lease_at POSITION, or some of these with semicolons between them"
         )
     }
 }

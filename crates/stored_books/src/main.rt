@@ -14,24 +14,24 @@ fn main(rt: HostRuntime) -> anyhow::Result<()> {
 // Prints the number of each book, from 1, and then its printout. Each book takes two bytes or more, so there are no
 // more books than bytes.
 fn print_all(rt: &HostRuntime, stored: &[u8]) -> anyhow::Result<()> {
-    let mut left = stored;
+    let mut unread = stored;
     for number in 1..=stored.len() {
-        if left.is_empty() {
+        if unread.is_empty() {
             break;
         }
-        let Some((book, after)) = first_book(left) else {
+        let Some((book, after)) = first_book(unread) else {
             println!(rt; "the input ends before the end of book {number}")?;
             break;
         };
         println!(rt; "book {number}")?;
         let printout = tenancy(rt.alloc(), book)?;
         io::writer(rt).write_all(&printout)?;
-        left = after;
+        unread = after;
     }
     Ok(())
 }
 
-// The first book of some stored books, and what stands after it, unless the bytes end before that book does.
+// The first of some stored books, and the bytes after it. None where the bytes end before that book does.
 fn first_book(stored: &[u8]) -> Option<(&[u8], &[u8])> {
     let [low, high, after @ ..] = stored else {
         return None;

@@ -1,42 +1,36 @@
-//! The worked examples run as tests of the code, and tests that cross crates: of shares, offices, lines, books and
-//! calls. They are a crate of their own, since a crate's tests prove the whole crate anew.
+//! Tests that cross crates: of shares, offices, lines, books and calls. The worked examples, which `examples` proves of
+//! the definitions, run here as tests of the code. Tests have a crate of their own, since a crate's tests prove the
+//! whole crate once more.
 #![tactic(auto)]
 
 #[cfg(test)]
-mod books_tried;
+mod book_tests;
 #[cfg(test)]
-mod calls_tried;
+mod call_tests;
 #[cfg(test)]
-mod lines_tried;
+mod line_tests;
 #[cfg(test)]
-mod offices_tried;
+mod office_tests;
 #[cfg(test)]
-mod shares_tried;
+mod share_tests;
 
 #[cfg(test)]
 use lending::Lease;
 #[cfg(test)]
-use shares::{Printed, Share};
+use shares::{LONGEST_TEXT, Printed};
 #[cfg(test)]
 use trees::Trees;
 
-// A row that nothing was written to.
+// A row for leases of tree shares.
 #[cfg(test)]
 fn free_row() -> Lease<Trees> {
-    Lease {
-        number: 0,
-        resource: 0,
-        holder: 0,
-        lender: 0,
-        due: 0,
-        share: Trees::empty(),
-    }
+    Lease::free()
 }
 
 // Whether a share has this text.
 #[cfg(test)]
 fn prints<S: Printed>(share: S, text: &[u8]) -> bool {
-    let mut space = [0u8; 190];
+    let mut space = [0u8; LONGEST_TEXT];
     let length = share.write(&mut space);
     &space[0..length] == text
 }

@@ -24,5 +24,5 @@ returns c = record {
   four_back = refl;
   last_reader = refl;
   no_more_readers = refl;
-  book = record { answered = refl; left = refl; summed = refl; printed = refl };
+  book = record { answers = refl; roll = refl; totals = refl; printout = refl };
 }

@@ -1,16 +1,14 @@
 use crate::{free_row, prints};
 use calls::{Call, Tallies, do_job, make, make_all};
-use chain::Chain;
 use desk::{Slip, lease_at, may_write, standing, yield_lease};
 use fickle::{Fickle, work, work_fickle};
 use ledger::Ledger;
 use lender::lend_rows;
-use lending::Refusal;
+use lending::{Lease, Refusal};
 use office::Office;
-use quota::Quota;
+use pile::house_pile;
 use shares::Printed;
 use std::process::Abort;
-use term::Term;
 
 // The number and the level of a refusal.
 fn refusal<T: Drop>(answer: Result<T, Refusal>) -> Option<(u8, u8)> {
@@ -57,7 +55,7 @@ fn stands<S: Printed, O: Office<Kind = S>>(
 
 // Ten calls to a pile of three layers: the worked book.
 fn ten_calls<S: Printed, O: Office<Kind = S> + Drop>(rt: &impl Abort, below: O) {
-    let mut office = Quota::over(Term::over(Chain::over(below, 2), 30), 64);
+    let mut office = house_pile(below, 64, 30, 2);
     let _ = make_all(
         &mut office,
         &[open(7, 1), delegate(1, 2, 20), delegate(2, 3, 10)],
@@ -182,6 +180,17 @@ fn days_go_by<S: Printed, O: Office<Kind = S> + Drop>(rt: &impl Abort, mut offic
 }
 
 #[test]
+fn a_lease_falls_due_on_its_day(rt: HostRuntime) {
+    let lease = Lease {
+        due: 20,
+        ..free_row()
+    };
+    assert!(rt; !lease.falls_due_by(19));
+    assert!(rt; lease.falls_due_by(20));
+    assert!(rt; lease.falls_due_by(21));
+}
+
+#[test]
 fn leases_lapse(rt: HostRuntime) {
     let mut rows = [free_row(); 8];
     days_go_by(&rt, Ledger::new(&mut rows));
@@ -204,7 +213,7 @@ fn no_row_is_free(rt: HostRuntime) {
 fn rows_come_back_from_under_three_layers(rt: HostRuntime) {
     let mut rows = [free_row(); 8];
     let ledger = Ledger::new(&mut rows);
-    let mut office = Quota::over(Term::over(Chain::over(ledger, 2), 30), 64);
+    let mut office = house_pile(ledger, 64, 30, 2);
     let _ = make_all(&mut office, &[open(7, 1), delegate(1, 2, 20)]);
     let back = office.into_below().into_below().into_below().into_rows();
     assert_eq!(rt; back.len(), 8);

@@ -1,4 +1,4 @@
-use Rattle.worked_tests.proofs.shares_tried.+every_second.Given as goal
+use Rattle.tests.proofs.share_tests.+every_second.Given as goal
 
 abbrev pub decreases-every_second : goal.decreases-every_second
 decreases-every_second l = l.depth

@@ -25,14 +25,14 @@ fn the_worked_book_opens(rt: HostRuntime) -> Result<(), Fail> {
     };
     assert_eq!(rt; book.header, header);
     let fourth = book.event(3).ok_or("no fourth event")?;
-    assert_eq!(rt; fourth.asked(), Ok((Code::Delegate, [3, 4, 5])));
+    assert_eq!(rt; fourth.code_and_operands(), Ok((Code::Delegate, [3, 4, 5])));
     let last = book.event(9).ok_or("no tenth event")?;
-    assert_eq!(rt; last.asked(), Ok((Code::Recall, [2, 0, 0])));
+    assert_eq!(rt; last.code_and_operands(), Ok((Code::Recall, [2, 0, 0])));
     assert!(rt; book.event(10).is_none());
     Ok(())
 }
 
-// Each of these breaks one rule and the rules after it that it can break with it; the last breaks none.
+// Each of these breaks the rule of its number and, where it can, the rules after it. The last two break none.
 #[test]
 fn the_first_broken_rule_refuses(rt: HostRuntime) {
     assert_eq!(rt; refusal(&[]), 41);

@@ -1,7 +1,7 @@
 use crate::prints;
 use counting::Counting;
 use rounds::{Round, lend_and_return};
-use shares::{Printed, Share, join_all};
+use shares::{LONGEST_TEXT, Printed, Share, join_all};
 use std::test::Fail;
 use trees::Trees;
 
@@ -101,7 +101,7 @@ fn every_second(block: Trees, depth: u8) -> Option<Trees> {
 
 #[test]
 fn the_longest_text_has_190_bytes(rt: HostRuntime) -> Result<(), Fail> {
-    let mut space = [b'.'; 190];
+    let mut space = [b'.'; LONGEST_TEXT];
     let share = every_second(Trees::whole(), 5).ok_or("no join")?;
     assert_eq!(rt; share.write(&mut space), 190);
     assert_eq!(rt; space[0], b'(');
@@ -111,7 +111,7 @@ fn the_longest_text_has_190_bytes(rt: HostRuntime) -> Result<(), Fail> {
 
 #[test]
 fn bytes_after_a_text_stay(rt: HostRuntime) -> Result<(), Fail> {
-    let mut space = [b'.'; 190];
+    let mut space = [b'.'; LONGEST_TEXT];
     let length = Trees::whole()
         .halve()
         .ok_or("no halves")?
