@@ -3,7 +3,7 @@ use Rattle.quota.specs.Means.{quota_rule}
 use Rattle.term.specs.Means.{term_rule}
 use Rattle.chain.specs.Means.{chain_rule}
 use Rattle.pile.proofs.Three.{three_layers, three_stand}
-use Rattle.pile.proofs.pile.house_pile.Goals as goal
+use Rattle.pile.proofs.pile.pile_up.Goals as goal
 
 pub returns : goal.returns
 returns g c =
