@@ -13,4 +13,4 @@ pub use joins::join_all;
 pub use plain_text::PlainText;
 pub use printed::{LONGEST_TEXT, Printed};
 pub use share::Share;
-pub use text::Text;
+pub use text::{Text, text_of};

@@ -1,7 +1,7 @@
 use crate::prints;
 use counting::Counting;
 use rounds::{Round, lend_and_return};
-use shares::{LONGEST_TEXT, Printed, Share, join_all};
+use shares::{LONGEST_TEXT, Printed, Share, join_all, text_of};
 use std::test::Fail;
 use trees::Trees;
 
@@ -121,6 +121,15 @@ fn bytes_after_a_text_stay(rt: HostRuntime) -> Result<(), Fail> {
     assert_eq!(rt; space[3], b')');
     assert_eq!(rt; space[4], b'.');
     assert_eq!(rt; space[189], b'.');
+    Ok(())
+}
+
+#[test]
+fn a_share_has_its_text_as_a_string(rt: HostRuntime) -> Result<(), Fail> {
+    let half = Trees::whole().halve().ok_or("no halves")?.0;
+    let source = kept(Counting::whole(), 3).ok_or("no halves")?;
+    assert_eq!(rt; text_of(rt.alloc(), half)?.as_str(), "(10)");
+    assert_eq!(rt; text_of(rt.alloc(), source)?.as_str(), "s3");
     Ok(())
 }
 
