@@ -54,7 +54,7 @@ impl fmt::Display for Call {
 }
 
 /// What an office answers to a call that it grants, or to a question.
-#[derive(PartialEq, Eq, Debug, Drop)]
+#[derive(Clone, Copy, PartialEq, Eq, Debug, Drop)]
 pub enum Answer<S> {
     Done,
     Number(usize),
