@@ -7,16 +7,23 @@ use lending::Lease;
 use office::Office;
 use pile::house_pile;
 use shares::PlainText;
+use std::slice::Iter;
+
+// The calls of the next list. There are as many lists as lines that ask for one, so it is never missing.
+pub(crate) fn next_list<'a>(lists: &mut Iter<'a, Vec<Call>>) -> &'a [Call] {
+    lists.next().map_or(&[], |calls| calls.as_slice())
+}
 
 // Sets up an office, and makes the calls to it.
 pub(crate) fn serve<S: PlainText>(
     rt: &HostRuntime,
     office: SetUp,
     lines: &[Line],
+    lists: &mut Iter<'_, Vec<Call>>,
 ) -> anyhow::Result<()> {
     println!(rt; "{office}")?;
     let mut rows = vec![in rt.alloc(); Lease::<S>::free(); usize::from(office.rows)]?;
-    serve_over(rt, Ledger::new(rows.as_mut_slice()), office, lines)
+    serve_over(rt, Ledger::new(rows.as_mut_slice()), office, lines, lists)
 }
 
 // Piles the house's layers on an office, and makes the calls.
@@ -25,13 +32,14 @@ fn serve_over<S: PlainText, O: Office<Kind = S> + Drop>(
     below: O,
     office: SetUp,
     lines: &[Line],
+    lists: &mut Iter<'_, Vec<Call>>,
 ) -> anyhow::Result<()> {
     let mut pile = house_pile(below, office.quota, office.term, office.chain);
     for line in lines {
-        match line {
-            Line::Call(call) => answer(rt, &mut pile, *call)?,
-            Line::List(calls) => answer_list(rt, &mut pile, calls)?,
-            Line::Job { lease, calls } => answer_job(rt, &mut pile, *lease, calls)?,
+        match *line {
+            Line::Call(call) => answer(rt, &mut pile, call)?,
+            Line::List => answer_list(rt, &mut pile, next_list(lists))?,
+            Line::Job { lease } => answer_job(rt, &mut pile, lease, next_list(lists))?,
             // An office begins a part of the lines, so it never stands among the calls.
             Line::Office(_) | Line::Unreadable => println!(rt; "{Unreadable}")?,
         }

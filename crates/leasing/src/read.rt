@@ -35,28 +35,39 @@ impl fmt::Display for SetUp {
     }
 }
 
-// What a line asks for.
-#[derive(Drop)]
+// What a line asks for. The calls of a list stand apart, so that a line takes as little memory as it can, and a long
+// input of single calls none for lists.
+#[derive(Clone, Copy, Drop)]
 pub(crate) enum Line {
     Office(SetUp),
     Call(Call),
-    // calls to be made one after another
-    List(Vec<Call>),
-    // calls to be made until one is refused, beside a slip for a lease
-    Job { lease: u16, calls: Vec<Call> },
+    // the next list of calls, to be made one after another
+    List,
+    // the next list of calls, to be made until one is refused, beside a slip for a lease
+    Job { lease: u16 },
     Unreadable,
 }
 
-// Reads a line: calls with semicolons between them are a list, and behind a colon they are a job's.
-pub(crate) fn read_line(alloc: Global, line: &str) -> Result<Line, AllocError> {
+// Reads a line, and adds the list of calls that it asks for to those of the lines before it, if it does: calls with
+// semicolons between them are a list, and behind a colon they are a job's.
+pub(crate) fn read_line(
+    alloc: Global,
+    line: &str,
+    lists: &mut Vec<Vec<Call>>,
+) -> Result<Line, AllocError> {
     if let Some((slip, calls)) = line.split_once(':') {
-        return Ok(match (read_slip(slip), read_calls(alloc, calls)?) {
-            (Ok(lease), Some(calls)) => Line::Job { lease, calls },
-            _ => Line::Unreadable,
-        });
+        let (Ok(lease), Some(calls)) = (read_slip(slip), read_calls(alloc, calls)?) else {
+            return Ok(Line::Unreadable);
+        };
+        lists.push(calls)?;
+        return Ok(Line::Job { lease });
     }
     if line.contains(';') {
-        return Ok(read_calls(alloc, line)?.map_or(Line::Unreadable, Line::List));
+        let Some(calls) = read_calls(alloc, line)? else {
+            return Ok(Line::Unreadable);
+        };
+        lists.push(calls)?;
+        return Ok(Line::List);
     }
     Ok(match line.parse() {
         Ok(call) => Line::Call(call),
