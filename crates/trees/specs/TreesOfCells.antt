@@ -10,7 +10,7 @@ use Rattle.trees.specs.Tree.{Tree, leaf, node, fold, lower, upper, ◌⊔◌, �
 use Rattle.trees.specs.Cells.{span, filled, tree_of, cells_of}
 
 -- the halves of a folded pair are the pair
-fold_halves : (l r : Tree) → (lower (fold l r) ≡ l) × (upper (fold l r) ≡ r)
+pub fold_halves : (l r : Tree) → (lower (fold l r) ≡ l) × (upper (fold l r) ≡ r)
 fold_halves (leaf true) (leaf true) = (refl, refl)
 fold_halves (leaf true) (leaf false) = (refl, refl)
 fold_halves (leaf true) (node a b) = (refl, refl)

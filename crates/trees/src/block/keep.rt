@@ -33,6 +33,7 @@ impl Block {
     }
 
     // The lower half of a filled leaf, or None where it is one cell.
+    #[tactic(auto, using(crate::proofs::Sizes::half_range))]
     fn kept_of_leaf(self) -> Option<u64>
         ensures { result ≡ (if nat_eq self.size 1 then None else Some (2 ^ (self.size / 2) - 1)) }
     {
