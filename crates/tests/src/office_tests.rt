@@ -1,6 +1,6 @@
 use crate::{free_row, prints};
 use calls::{Call, Tallies, do_job, make, make_all};
-use desk::{Slip, lease_at, may_write, standing, yield_lease};
+use desk::{Slip, assign, lease_at, may_write, set_day, standing, yield_lease};
 use fickle::{Fickle, work, work_fickle};
 use ledger::Ledger;
 use lender::lend_rows;
@@ -53,34 +53,27 @@ fn stands<S: Printed, O: Office<Kind = S>>(
         && prints(lease.share, text))
 }
 
-// Ten calls to a pile of three layers: the worked book.
+// Calls to a pile of three layers: the worked book, and that today can't be set past the day of a live lease.
 fn ten_calls<S: Printed, O: Office<Kind = S> + Drop>(rt: &impl Abort, below: O) {
     let mut office = house_pile(below, 64, 30, 2);
-    let _ = make_all(
-        &mut office,
-        &[open(7, 1), delegate(1, 2, 20), delegate(2, 3, 10)],
-    );
+    assert_eq!(rt; desk::open(&mut office, 7, 1), Ok(1));
+    assert_eq!(rt; desk::delegate(&mut office, 1, 2, 20), Ok(2));
+    assert_eq!(rt; desk::delegate(&mut office, 2, 3, 10), Ok(3));
     assert_eq!(rt;
         refusal(make(&mut office, delegate(3, 4, 5))),
         Some((23, 2))
     );
     assert_eq!(rt; refusal(yield_lease(&mut office, 2)), Some((9, 3)));
-    let lapsed = make_all(
-        &mut office,
-        &[
-            day(10),
-            Call::Assign {
-                lease: 2,
-                holder: 1,
-            },
-        ],
-    );
+    assert_eq!(rt; refusal(set_day(&mut office, 10)), Some((14, 3)));
+    let lapsed = make_all(&mut office, &[day(10)]);
     assert_eq!(rt; lapsed.lapsed, 1);
+    assert!(rt; assign(&mut office, 2, 1).is_ok());
     assert_eq!(rt;
         refusal(make(&mut office, delegate(1, 5, 41))),
         Some((22, 1))
     );
-    let recalled = make_all(&mut office, &[delegate(1, 5, 40), recall(2)]);
+    assert_eq!(rt; desk::delegate(&mut office, 1, 5, 40), Ok(4));
+    let recalled = make_all(&mut office, &[recall(2)]);
     assert_eq!(rt; recalled.recalled, 1);
     assert!(rt; stands(&office, 0, 1, b"((10)1)"));
     assert!(rt; stands(&office, 1, 4, b"((01)0)"));
