@@ -7,26 +7,33 @@ use crate::order::{NoOrder, Order};
 use kinds::{of_kind, *};
 use rounds::{Loan, Round, SharedOut, lend_and_return};
 use shares::{PlainText, Text};
-use std::io::ErrorKind;
+use std::io::{self, ErrorKind};
 
 fn main(rt: HostRuntime) -> anyhow::Result<()> {
     answer_all(&rt)
 }
 
-// Answers each line of standard input; an empty input gets the answer of a line that can't be read.
+// Answers each line of standard input; an empty input gets the answer of a line that can't be read. (The lines hold the
+// space that they are read into. Nothing takes them over, or the stack would have that space twice.)
 fn answer_all(rt: &HostRuntime) -> anyhow::Result<()> {
-    let mut lines = rt.lines(rt.alloc()).peekable();
-    if lines.peek().is_none() {
-        println!(rt; "{NoOrder}")?;
-    }
-    for line in lines {
-        match line {
-            Ok(line) => answer(rt, line.as_str())?,
-            Err(error) if error.kind() == ErrorKind::InvalidData => println!(rt; "{NoOrder}")?,
-            Err(error) => return Err(error.into()),
-        }
+    let mut lines = rt.lines(rt.alloc());
+    let Some(first) = lines.next() else {
+        return Ok(println!(rt; "{NoOrder}")?);
+    };
+    answer_line(rt, first)?;
+    for line in lines.by_ref() {
+        answer_line(rt, line)?;
     }
     Ok(())
+}
+
+// Answers a line that was read, whether or not it is text.
+fn answer_line(rt: &HostRuntime, line: io::Result<String>) -> anyhow::Result<()> {
+    match line {
+        Ok(line) => answer(rt, line.as_str()),
+        Err(error) if error.kind() == ErrorKind::InvalidData => Ok(println!(rt; "{NoOrder}")?),
+        Err(error) => Err(error.into()),
+    }
 }
 
 // Does what one line asks for, and prints what was done.
